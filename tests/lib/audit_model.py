@@ -1,7 +1,7 @@
 #!/usr/bin/env python3
 """What `rad_audit` answers, written a second time: from docs/formats.md, by Python's datetime, json, hashlib and tomllib.
 
-usage: audit_model.py CONFIG FILE..    audits as the program does
+usage: audit_model.py [--from] [--partial] CONFIG FILE..    audits as the program does
 
 Of a configuration it looks at the addresses, names and secrets alone.
 """
@@ -17,7 +17,9 @@ MOST_CONFIG, MOST_LINE = 1_048_576, 65_536
 REQUEST, RESPONSE, PROXY_STATE, MESSAGE_AUTHENTICATOR = 4, 5, 33, 80
 USER_NAME, STATUS_TYPE, SESSION_ID = 1, 40, 44
 MOST_RANGES = 4096
-USAGE = "usage: rad_audit [--rows] CONFIG FILE.."
+USAGE = "usage: rad_audit [--rows] [--from] [--partial] CONFIG FILE.."
+# The exit status of each finding: the first of these that was found.
+STATUSES = {"wrong": 5, "contradicted": 9, "file": 8, "gap": 3, "part": 7, "nothing": 10, "open": 6}
 OCTETS, ADDRESS = re.compile(r"([0-9a-fA-F]{2})*"), re.compile(r"(0|[1-9][0-9]{0,2})(\.(0|[1-9][0-9]{0,2})){3}")
 TIME = re.compile(r"[0-9]{4}-[0-9]{2}-[0-9]{2}T[0-9]{2}:[0-9]{2}:[0-9]{2}\.[0-9]{3}Z")
 HEAD = {"type", "run", "time"}
@@ -212,18 +214,19 @@ class Numbers:
 class Audit:
     """What is known of the runs, and what was printed."""
 
-    def __init__(self, config):
+    def __init__(self, config, asked=()):
+        self.asked, self.found, self.files = asked, set(), {}
         self.homes = {home["name"]: home["secret"].encode() for home in config["home"]}
         self.clients = {client["address"]: client["secret"].encode() for client in config["client"]}
-        self.runs, self.printed, self.wrong, self.gap = {}, [], False, False
+        self.runs, self.printed = {}, []
 
     def is_wrong(self, place, reason):
         self.printed.append(f"{place}: {reason}")
-        self.wrong = True
+        self.found.add("wrong")
 
     def lacks(self, place, name, first, last):
         self.printed.append(f"{place}: {name} gap {first} to {last}")
-        self.gap = True
+        self.found.add("gap")
 
     def lane(self, run, number):
         return next((lane for lane in self.runs.get(run, []) if lane["lane"] == number), None)
@@ -266,7 +269,8 @@ class Audit:
             return self.is_wrong(place, reason)
         lane["back"], lane["last"] = lane["back"] + (entry["time"] < lane["last"]), entry["time"]
         lane["numbers"].add(entry["record"])
-        lane["not judged"] += entry["home"] not in self.homes
+        lane["not judged"] += entry["home"] not in self.homes or entry["client"] not in self.clients
+        lane["events"].append(None)
         if lane["next"] < entry["serial"]:
             gap = lane["next"], entry["serial"] - 1
             lane["gap"] = lane["gap"] or gap
@@ -293,6 +297,8 @@ class Audit:
             return self.is_wrong(place, reason)
         lane["numbers"].add(left["record"])
         lane["left"] += 1
+        lane["not judged"] += left["client"] not in self.clients
+        lane["events"].append(None)
 
     def take_end(self, place, end):
         run = end["run"].lower()
@@ -302,6 +308,7 @@ class Audit:
                 self.is_wrong(place, "UnknownLane")
                 continue
             lane["end"], lane["told"] = count["entries"], (count["accepted"], count["left"]) if "left" in count else None
+            lane["events"].append((lane["end"], lane["told"]))
             if lane["next"] < lane["end"]:
                 self.lacks(place, named(run, lane), lane["next"], lane["end"] - 1)
 
@@ -314,8 +321,14 @@ class Audit:
             self.take_end(place, line)
         else:
             fresh = {"gap": None, "end": None, "told": None, "entries": 0, "left": 0, "not judged": 0, "last": "", "back": 0}
-            lanes = [{**lane, **fresh, "numbers": Numbers(), "next": lane["serial"]} for lane in line["lanes"]]
-            self.runs.setdefault(line["run"].lower(), lanes)
+            run, file = line["run"].lower(), line["file"]
+            first, following = self.files.get(run, (file, file))
+            if file > following:
+                self.printed.append(f"{place}: run {run} files {following} to {file - 1} missing")
+                self.found.add("file")
+            self.files[run] = first, max(following, min(file + 1, 2**64 - 1))
+            lanes = [{**lane, **fresh, "numbers": Numbers(), "events": [], "next": lane["serial"]} for lane in line["lanes"]]
+            self.runs.setdefault(run, lanes)
 
     def read(self, file, octets):
         """Reads the lines of a file."""
@@ -335,33 +348,56 @@ class Audit:
 
     def end(self):
         """Tells of each lane, and gives the status."""
+        if not any(self.runs.values()):
+            self.found.add("nothing")
         for run, lanes in self.runs.items():
             for lane in lanes:
-                gap = lane["gap"]
-                if gap is None and lane["end"] is not None and lane["next"] < lane["end"]:
-                    gap = lane["next"], lane["end"] - 1
-                whole = "whole" if is_settled(lane) else "unaccounted"
-                verdict = f"gap {gap[0]} to {gap[1]}" if gap else whole if lane["end"] == lane["next"] else "open"
-                self.gap = self.gap or gap is not None or verdict == "unaccounted"
-                counts = f"from {lane['serial']} entries {lane['entries']} not judged {lane['not judged']}"
-                self.printed.append(f"{named(run, lane)} {counts} {verdict}")
-                if lane["told"]:
-                    self.printed.append(f"{named(run, lane)} accepted {lane['told'][0]} answered {lane['entries']} left {lane['left']}")
-                if lane["numbers"].exact_from:
-                    self.printed.append(f"{named(run, lane)} more than {MOST_RANGES} ranges")
-                if lane["back"]:
-                    self.printed.append(f"{named(run, lane)} steps back in time {lane['back']}")
-        return 5 if self.wrong else 3 if self.gap else 0
+                self.tell(run, lane)
+        return next((status for finding, status in STATUSES.items() if finding in self.found), 0)
+
+    def tell(self, run, lane):
+        """Tells of a lane."""
+        gap = lane["gap"]
+        if gap is None and lane["end"] is not None and lane["next"] < lane["end"]:
+            gap = lane["next"], lane["end"] - 1
+        late, unknown = bool(lane["serial"] or self.files[run][0]), bool(lane["not judged"])
+        if is_contradicted(lane):
+            verdict = "contradicted"
+        elif gap:
+            verdict = f"gap {gap[0]} to {gap[1]}"
+        elif lane["end"] is None:
+            verdict = "open"
+        else:
+            verdict = "unaccounted" if not is_settled(lane) else "part" if late or unknown else "whole"
+        self.found.add({"whole": "whole", "part": "whole", "unaccounted": "gap"}.get(verdict, verdict.split()[0]))
+        if late and not {"--from", "--partial"} & set(self.asked) or unknown and "--partial" not in self.asked:
+            self.found.add("part")
+        counts = f"from {lane['serial']} entries {lane['entries']} not judged {lane['not judged']}"
+        self.printed.append(f"{named(run, lane)} {counts} {verdict}")
+        if lane["told"]:
+            self.printed.append(f"{named(run, lane)} accepted {lane['told'][0]} answered {lane['entries']} left {lane['left']}")
+        if lane["numbers"].exact_from:
+            self.printed.append(f"{named(run, lane)} more than {MOST_RANGES} ranges")
+        if lane["back"]:
+            self.printed.append(f"{named(run, lane)} steps back in time {lane['back']}")
+
+
+def is_contradicted(lane):
+    """Whether anything but the same end line stands behind an end line, or the last one counts less than there is."""
+    events = lane["events"]
+    behind = any(event is not None and any(later != event for later in events[at:]) for at, event in enumerate(events))
+    return behind or lane["end"] is not None and lane["end"] < lane["next"]
 
 
 def is_settled(lane):
-    """Whether each request that was accepted has a line, and only one, as far as an end line says how many were accepted."""
+    """Whether each request that was accepted has a line, and only one, as far as an end line says how many were accepted. Where the lane
+    begins with a later serial, the responses before that count as lines."""
     numbers = lane["numbers"]
     if numbers.exact_from or not lane["told"]:
         return not numbers.exact_from
     accepted, left = lane["told"]
-    are_all = len(numbers.numbers) == accepted and all(number < accepted for number in numbers.numbers)
-    return are_all and left == lane["left"]
+    are_all = bool(lane["serial"]) or len(numbers.numbers) == accepted and all(number < accepted for number in numbers.numbers)
+    return are_all and left == lane["left"] and lane["serial"] + lane["entries"] + left == accepted
 
 
 def named(run, lane):
@@ -391,13 +427,14 @@ def configured(path):
 
 def main(words):
     """Audits, and gives the status."""
-    if len(words) < 2 or any(word.startswith("-") for word in words):
+    asked, given = [word for word in words if word in ("--from", "--partial")], [word for word in words if word not in ("--from", "--partial")]
+    if len(given) < 2 or len(asked) != len(set(asked)) or any(word.startswith("-") for word in given):
         print(USAGE, file=sys.stderr)
         return 1
     audit, fault = None, None
     try:
-        audit = Audit(configured(words[0]))
-        for path in words[1:]:
+        audit = Audit(configured(given[0]), asked)
+        for path in given[1:]:
             audit.read(path, read_file(path))
         status = audit.end()
     except Ends as ended:

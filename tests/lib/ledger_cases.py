@@ -189,15 +189,25 @@ def runs():
     """Runs by what they show: the files, in their order, what has to be printed, the status, and the configuration."""
     yield "whole", {"ledger": text(lines_of(one(), 3))}, [counted(0, "h1", 0, 3, "whole")], 0
     yield "whole-with-nothing", {"ledger": text(lines_of(one(), 0))}, [counted(0, "h1", 0, 0, "whole")], 0
-    yield "open", {"ledger": text(lines_of(one(), 2, False))}, [counted(0, "h1", 0, 2, "open")], 0
-    yield "begun-alone", {"ledger": text([one().begin()])}, [counted(0, "h1", 0, 0, "open")], 0
-    yield "empty-file", {"ledger": ""}, [], 0
+    yield "open", {"ledger": text(lines_of(one(), 2, False))}, [counted(0, "h1", 0, 2, "open")], 6
+    yield "begun-alone", {"ledger": text([one().begin()])}, [counted(0, "h1", 0, 0, "open")], 6
+    yield "empty-file", {"ledger": ""}, [], 10
+    yield "a-run-without-lanes", {"ledger": text([changed(one().begin(), lanes=[])])}, [], 10
+    yield "only-torn", {"ledger": "{"}, ["ledger:1: torn"], 10
     yield "the-longest-configuration", {"ledger": text(lines_of(one(), 1))}, [counted(0, "h1", 0, 1, "whole")], 0, config() + "#" * (2**20 - len(config()))
 
     run = one()
     first, second = [run.begin(), run.entry(), run.entry()], [run.begin(), run.entry(), run.end()]
     yield "two-files", {"a": text(first), "b": text(second)}, [counted(0, "h1", 0, 3, "whole")], 0
-    yield "from-the-second-file", {"b": text(second)}, [counted(0, "h1", 2, 1, "whole")], 0
+    part = [counted(0, "h1", 2, 1, "part")]
+    yield "from-the-second-file", {"b": text(second)}, part, 7
+    yield "from-the-second-file-as-asked", {"b": text(second)}, part, 0, config(), ["--from"]
+    yield "a-part-as-asked", {"b": text(second)}, part, 0, config(), ["--partial"]
+    yield "whole-where-a-part-is-asked-for", {"a": text(first), "b": text(second)}, [counted(0, "h1", 0, 3, "whole")], 0, config(), ["--from", "--partial"]
+    yield "a-later-file-of-a-lane-without-responses", {"b": text([changed(one().begin(), file=1), one().end()])}, [counted(0, "h1", 0, 0, "part")], 7
+    open_part = [counted(0, "h1", 2, 1, "open")]
+    yield "an-open-part", {"b": text(second[:2])}, open_part, 7
+    yield "an-open-part-as-asked", {"b": text(second[:2])}, open_part, 6, config(), ["--from"]
     missing = [f"b:2: run {NAME:016x} lane 0 h1 gap 1 to 1", counted(0, "h1", 0, 2, "gap 1 to 1")]
     yield "cut-between-files", {"a": text(first[:2]), "b": text(second)}, missing, 3
 
@@ -205,10 +215,10 @@ def runs():
     odd = [run.begin(), run.entry(), run.end(), changed(run.end(), lanes=[{"lane": 0, "entries": 6}])]
     run.lanes[0].serial = run.lanes[0].record = 9
     told = [f"ledger:4: run {NAME:016x} lane 0 h1 gap 4 to 5", f"ledger:5: run {NAME:016x} lane 0 h1 gap 4 to 8", "ledger:6: SerialNotAbove"]
-    yield "an-entry-behind-two-ends", {"ledger": text([*odd, *[run.entry()] * 2])}, [*told, counted(0, "h1", 3, 2, "gap 4 to 8")], 5
+    yield "an-entry-behind-two-ends", {"ledger": text([*odd, *[run.entry()] * 2])}, [*told, counted(0, "h1", 3, 2, "contradicted")], 5
 
-    yield "from-5", {"ledger": text(lines_of(one(5), 2))}, [counted(0, "h1", 5, 2, "whole")], 0
-    yield "over-32-bits", {"ledger": text(lines_of(one(2**32 - 2), 4))}, [counted(0, "h1", 2**32 - 2, 4, "whole")], 0
+    yield "from-5", {"ledger": text(lines_of(one(5), 2))}, [counted(0, "h1", 5, 2, "part")], 7
+    yield "over-32-bits", {"ledger": text(lines_of(one(2**32 - 2), 4))}, [counted(0, "h1", 2**32 - 2, 4, "part")], 0, config(), ["--from"]
 
     homes = [(f"h{lane}", HOME) for lane in range(64)]
     run = Run(NAME, [Lane(lane, *home) for lane, home in enumerate(homes)])
@@ -219,7 +229,7 @@ def runs():
     run = Run(2**64 - 1, [Lane(0x1234, "h1", HOME, 2**63 - 2, 0x0123456789ABCDEF), Lane(65535, "h2", OTHER, 0, 2**64 - 1)])
     lines = [run.begin(), run.entry(0), run.entry(0, status=2**32 - 1), changed(run.entry(1), port=65535), run.end()]
     yield "the-greatest-numbers", {"ledger": text(lines)}, [
-        counted(0x1234, "h1", 2**63 - 2, 2, "whole", run=run.run), counted(65535, "h2", 0, 1, "whole", run=run.run)], 0
+        counted(0x1234, "h1", 2**63 - 2, 2, "part", run=run.run), counted(65535, "h2", 0, 1, "whole", run=run.run)], 7
 
     run = one()
     first, octets = run.begin(), [*range(4059, -1, -63), 0]
@@ -261,7 +271,18 @@ def runs():
     yield "doubled", {"ledger": text([*lines[:3], lines[2], *lines[3:]])}, ["ledger:4: SerialNotAbove", counted(0, "h1", 0, 9, "whole")], 5
     swapped = ["ledger:4: SerialNotAbove", f"ledger:3: run {NAME:016x} lane 0 h1 gap 1 to 1", counted(0, "h1", 0, 8, "gap 1 to 1")]
     yield "out-of-order", {"ledger": text([*lines[:2], lines[3], lines[2], *lines[4:]])}, [swapped[1], swapped[0], swapped[2]], 5
-    yield "an-end-that-counts-less", {"ledger": text([*lines[:-1], changed(lines[-1], lanes=[{"lane": 0, "entries": 8}])])}, [counted(0, "h1", 0, 9, "open")], 0
+    yield "an-end-that-counts-less", {"ledger": text([*lines[:-1], changed(lines[-1], lanes=[{"lane": 0, "entries": 8}])])}, [counted(0, "h1", 0, 9, "contradicted")], 9
+    end = lines[-1]
+    more = changed(end, lanes=[{"lane": 0, "entries": 10}])
+    told_of_more = f"ledger:12: run {NAME:016x} lane 0 h1 gap 9 to 9"
+    contradicted = [counted(0, "h1", 0, 9, "contradicted")]
+    yield "an-end-behind-its-entry", {"ledger": text([*lines[:-2], end, lines[-2]])}, [f"ledger:10: run {NAME:016x} lane 0 h1 gap 8 to 8", *contradicted], 9
+    yield "the-same-end-twice", {"ledger": text([*lines, end])}, [counted(0, "h1", 0, 9, "whole")], 0
+    yield "ends-of-other-counts", {"ledger": text([*lines, more])}, [told_of_more, *contradicted], 9
+    yield "ends-of-other-counts-of-before", {"ledger": text([*lines[:-1], more, end])}, [told_of_more.replace(":12", ":11"), *contradicted], 9
+    yield "an-end-that-is-contradicted-and-a-gap", {"ledger": text([*lines[:4], *lines[5:-1], changed(end, lanes=[{"lane": 0, "entries": 8}])])}, [
+        f"ledger:5: run {NAME:016x} lane 0 h1 gap 3 to 3", counted(0, "h1", 0, 8, "contradicted")], 9
+    yield "a-file-behind-an-end", {"a": text(lines), "b": text([changed(lines[0], file=1)])}, [counted(0, "h1", 0, 9, "whole")], 0
 
     run = two()
     lines = [run.begin(), run.entry(0), run.entry(1), run.entry(1), run.entry(0), run.end()]
@@ -273,18 +294,23 @@ def runs():
         "ledger:3: UnknownLane", "ledger:4: UnknownLane", counted(0, "h1", 0, 2, "open"), counted(1, "h3", 0, 0, "open")], 5
     yield "entries-before-their-run", {"ledger": text(lines[1:3] + lines[:1])}, [
         "ledger:1: UnknownLane", "ledger:2: UnknownLane", counted(0, "h1", 0, 0, "open"), counted(1, "h2", 0, 0, "open")], 5
-    one_home = [counted(0, "h1", 0, 2, "whole"), counted(1, "h2", 0, 2, "whole", 2)]
-    yield "one-home-server's-secret-alone", {"ledger": text(lines)}, one_home, 0, config(homes=(("h1", HOME),))
+    one_home = [counted(0, "h1", 0, 2, "whole"), counted(1, "h2", 0, 2, "part", 2)]
+    yield "one-home-server's-secret-alone", {"ledger": text(lines)}, one_home, 7, config(homes=(("h1", HOME),))
+    yield "one-home-server's-secret-as-asked", {"ledger": text(lines)}, one_home, 0, config(homes=(("h1", HOME),)), ["--partial"]
+    yield "one-home-server's-secret-and-another-word", {"ledger": text(lines)}, one_home, 7, config(homes=(("h1", HOME),)), ["--from"]
     wrong = [*lines[:2], turned(lines[2], "reply", 7), *lines[3:]]
-    yield "what-is-not-judged", {"ledger": text(wrong)}, one_home, 0, config(homes=(("h1", HOME),))
+    yield "what-is-not-judged", {"ledger": text(wrong)}, one_home, 7, config(homes=(("h1", HOME),))
     no_packet = [*lines[:2], changed(lines[2], reply="00"), *lines[3:]]
     yield "no-packet-of-an-unknown-home", {"ledger": text(no_packet)}, [
         "ledger:3: NoPacket", f"ledger:4: run {NAME:016x} lane 1 h2 gap 0 to 0", both[0], counted(1, "h2", 0, 1, "gap 0 to 0", 1)], 5, config(homes=(("h1", HOME),))
     unknown = [*lines[:1], turned(lines[1], "response", 7), *lines[2:]]
-    yield "client-that-is-not-there", {"ledger": text(unknown)}, both, 0, config(client="192.0.2.11")
+    unjudged = [counted(0, "h1", 0, 2, "part", 2), counted(1, "h2", 0, 2, "part", 2)]
+    yield "client-that-is-not-there", {"ledger": text(unknown)}, unjudged, 7, config(client="192.0.2.11")
+    yield "a-client-changed-to-one-that-is-not-there", {"ledger": text([lines[0], changed(lines[1], client="192.0.2.11"), *lines[2:]])}, [
+        counted(0, "h1", 0, 2, "part", 1), both[1]], 7
     unknown[1] = turned(unknown[1], "reply", 7)
     yield "reply-to-a-client-that-is-not-there", {"ledger": text(unknown)}, [
-        "ledger:2: WrongReply", f"ledger:5: run {NAME:016x} lane 0 h1 gap 0 to 0", counted(0, "h1", 0, 1, "gap 0 to 0"), both[1]], 5, config(client="192.0.2.11")
+        "ledger:2: WrongReply", f"ledger:5: run {NAME:016x} lane 0 h1 gap 0 to 0", counted(0, "h1", 0, 1, "gap 0 to 0", 1), unjudged[1]], 5, config(client="192.0.2.11")
 
     three = two()
     first = [three.begin(), three.entry(0), three.entry(1)]
@@ -292,7 +318,15 @@ def runs():
     all_three = {"a": text(first), "b": text(second), "c": text(third)}
     yield "three-files", all_three, [counted(0, "h1", 0, 3, "whole"), counted(1, "h2", 0, 2, "whole")], 0
     yield "three-files-in-another-order", {name: all_three[name] for name in ("b", "a", "c")}, [
-        "a:2: SerialNotAbove", "a:3: SerialNotAbove", counted(0, "h1", 1, 2, "whole"), counted(1, "h2", 1, 1, "whole")], 5
+        "a:2: SerialNotAbove", "a:3: SerialNotAbove", counted(0, "h1", 1, 2, "part"), counted(1, "h2", 1, 1, "part")], 5
+    yield "the-middle-file-left-out", {name: all_three[name] for name in ("a", "c")}, [
+        f"c:1: run {NAME:016x} files 1 to 1 missing", f"c:2: run {NAME:016x} lane 0 h1 gap 1 to 1", f"c:3: run {NAME:016x} lane 1 h2 gap 1 to 1",
+        counted(0, "h1", 0, 2, "gap 1 to 1"), counted(1, "h2", 0, 1, "gap 1 to 1")], 8
+    yield "the-last-file-left-out", {name: all_three[name] for name in ("a", "b")}, [counted(0, "h1", 0, 2, "open"), counted(1, "h2", 0, 2, "open")], 6
+    yield "a-file-without-entries-left-out", {"a": text(first), "b": text([changed(second[0], file=3)])}, [
+        f"b:1: run {NAME:016x} files 1 to 2 missing", counted(0, "h1", 0, 1, "open"), counted(1, "h2", 0, 1, "open")], 8
+    yield "the-greatest-file", {"a": text(first), "b": text([changed(second[0], file=2**64 - 1)] * 2)}, [
+        f"b:1: run {NAME:016x} files 1 to {2**64 - 2} missing", counted(0, "h1", 0, 1, "open"), counted(1, "h2", 0, 1, "open")], 8
     yield "the-same-file-twice", {"a": all_three["a"], "b": all_three["a"]}, [
         "b:2: SerialNotAbove", "b:3: SerialNotAbove", counted(0, "h1", 0, 1, "open"), counted(1, "h2", 0, 1, "open")], 5
     behind = {**all_three, "c": text([third[0], changed(third[2], lanes=[{"lane": 0, "entries": 4}, {"lane": 1, "entries": 3}])])}
@@ -304,8 +338,8 @@ def runs():
     aside = Run(NAME - 1, [Lane(3, "h2", OTHER, 7), Lane(1, "h1", HOME, 2)])
     woven = [aside.begin(), first[0], aside.entry(0), *first[1:], aside.entry(1), *second[1:], aside.entry(1), third[1], aside.end(), third[2]]
     yield "two-runs-side-by-side", {"ledger": text(woven)}, [
-        counted(3, "h2", 7, 1, "whole", run=NAME - 1), counted(1, "h1", 2, 2, "whole", run=NAME - 1),
-        counted(0, "h1", 0, 3, "whole"), counted(1, "h2", 0, 2, "whole")], 0
+        counted(3, "h2", 7, 1, "part", run=NAME - 1), counted(1, "h1", 2, 2, "part", run=NAME - 1),
+        counted(0, "h1", 0, 3, "whole"), counted(1, "h2", 0, 2, "whole")], 7
 
     lines = lines_of(one(), 3)
     wide = [lines[0], *(json.dumps(line) for line in lines[1:4]), lines[4]]
@@ -321,8 +355,8 @@ def runs():
 
     lines = lines_of(one(), 3)
     whole = counted(0, "h1", 0, 3, "whole")
-    yield "torn-at-the-end", {"ledger": text(lines[:3]) + json.dumps(lines[3])[:40]}, ["ledger:4: torn", counted(0, "h1", 0, 2, "open")], 0
-    yield "whole-but-for-its-line-end", {"ledger": text(lines)[:-1]}, ["ledger:5: torn", counted(0, "h1", 0, 3, "open")], 0
+    yield "torn-at-the-end", {"ledger": text(lines[:3]) + json.dumps(lines[3])[:40]}, ["ledger:4: torn", counted(0, "h1", 0, 2, "open")], 6
+    yield "whole-but-for-its-line-end", {"ledger": text(lines)[:-1]}, ["ledger:5: torn", counted(0, "h1", 0, 3, "open")], 6
     cut = text(lines[2:3])[:100]
     yield "torn-and-written-again", {"ledger": text([*lines[:2], cut, *lines[2:]])}, ["ledger:3: torn", whole], 0
     yield "torn-twice", {"ledger": text([*lines[:2], cut[:50], cut, *lines[2:]])}, ["ledger:3: torn", "ledger:4: torn", whole], 0
@@ -336,9 +370,9 @@ def runs():
     yield "a-line-that-is-none-twice", {"ledger": text([*lines[:2], cut, cut, *lines[3:]])}, [
         "ledger:3: NotEntry", "ledger:4: NotEntry", f"ledger:5: run {NAME:016x} lane 0 h1 gap 1 to 1", counted(0, "h1", 0, 2, "gap 1 to 1")], 5
     yield "an-empty-line", {"ledger": text([*lines[:2], "", *lines[2:]])}, ["ledger:3: torn", whole], 0
-    yield "a-last-line-that-is-too-long", {"ledger": text(lines[:3]) + " " * 70000}, ["ledger:4: torn", counted(0, "h1", 0, 2, "open")], 0
+    yield "a-last-line-that-is-too-long", {"ledger": text(lines[:3]) + " " * 70000}, ["ledger:4: torn", counted(0, "h1", 0, 2, "open")], 6
     named = Run(NAME, [Lane(0, "h\n1", HOME)])
-    yield "a-name-with-a-line-end", {"ledger": text(lines_of(named, 1))}, [counted(0, "h%0a1", 0, 1, "whole", 1)], 0
+    yield "a-name-with-a-line-end", {"ledger": text(lines_of(named, 1))}, [counted(0, "h%0a1", 0, 1, "part", 1)], 7
     end = changed(lines[-1], run="0" * 16)
     yield "an-end-of-no-run", {"ledger": text([*lines[:-1], end])}, ["ledger:5: UnknownLane", counted(0, "h1", 0, 3, "open")], 5
 
@@ -407,14 +441,20 @@ def accounts():
     more = [*lines[:4], *(changed(line, sendings=2, accepted=line["time"]) for line in lines[4:7]), lines[7]]
     yield "left-with-all-their-keys", {"ledger": text(more)}, whole, 0
     yield "left-before-they-are-answered", {"ledger": text([lines[0], *lines[4:7], *lines[1:4], lines[7]])}, whole, 0
-    yield "left-and-open", {"ledger": text(lines[:-1])}, [counted(0, "h1", 0, 3, "open")], 0
+    yield "left-and-open", {"ledger": text(lines[:-1])}, [counted(0, "h1", 0, 3, "open")], 6
+    yield "left-behind-an-end", {"ledger": text([*lines[:6], lines[7], lines[6]])}, [counted(0, "h1", 0, 3, "contradicted"), fates(6, 3, 3)], 9
+    for key, count in (("accepted", 7), ("left", 2)):
+        yield f"two-ends-of-another-{key}", {"ledger": text([*told(lines, **{key: count}), lines[-1]])}, [
+            counted(0, "h1", 0, 3, "contradicted"), fates(6, 3, 3)], 9
+    yield "two-ends-of-which-one-counts-no-requests", {"ledger": text([*lines, told(lines, accepted=None, left=None)[-1]])}, [
+        counted(0, "h1", 0, 3, "contradicted")], 9
     yield "left-and-an-end-of-before", {"ledger": text(told(lines, accepted=None, left=None))}, [counted(0, "h1", 0, 3, "whole")], 0
     yield "an-end-that-says-half", {"ledger": text(told(lines, left=None))}, ["ledger:8: NotEntry", counted(0, "h1", 0, 3, "open")], 5
     client = config(client="192.0.2.11")
     yield "left-by-an-unknown-client", {"ledger": text([*lines[:5], turned(lines[5], "request", 30), *lines[6:]])}, [
-        "ledger:6: WrongWords", counted(0, "h1", 0, 3, "unaccounted"), fates(6, 3, 2)], 5, client
+        "ledger:6: WrongWords", counted(0, "h1", 0, 3, "unaccounted", 5), fates(6, 3, 2)], 5, client
     yield "left-by-an-unknown-client-under-any-secret", {"ledger": text([*lines[:5], changed(turned(lines[5], "request", 7), authenticator=packets.turned(
-        bytes.fromhex(lines[5]["authenticator"]), 3).hex()), *lines[6:]])}, whole, 0, client
+        bytes.fromhex(lines[5]["authenticator"]), 3).hex()), *lines[6:]])}, [counted(0, "h1", 0, 3, "part", 6), fates(6, 3, 3)], 7, client
 
     not_all = counted(0, "h1", 0, 3, "unaccounted")
     yield "a-left-line-taken-out", {"ledger": text([*lines[:5], *lines[6:]])}, [not_all, fates(6, 3, 2)], 3
@@ -447,7 +487,11 @@ def accounts():
     run.lanes[0].record = 6
     yield "answered-in-any-order", {"ledger": text([*mixed, run.end_of_all()])}, [counted(0, "h1", 0, 6, "whole"), fates(6, 6, 0)], 0
     run = one(5)
-    yield "from-5-with-all-its-counts", {"ledger": text([*lines_of(run, 2, False), run.end_of_all()])}, [counted(0, "h1", 5, 2, "unaccounted"), fates(7, 2, 0)], 3
+    yield "from-5-with-all-its-counts", {"ledger": text([*lines_of(run, 2, False), run.end_of_all()])}, [counted(0, "h1", 5, 2, "part"), fates(7, 2, 0)], 7
+    for accepted in 6, 8:
+        run = one(5)
+        lines = told([*lines_of(run, 2, False), run.end_of_all()], accepted=accepted)
+        yield f"from-5-with-{accepted}-accepted", {"ledger": text(lines)}, [counted(0, "h1", 5, 2, "unaccounted"), fates(accepted, 2, 0)], 3, config(), ["--from"]
     run = Run(NAME, [Lane(0, "h1", HOME, record=2**64 - 1)])
     yield "the-greatest-number-twice", {"ledger": text([run.begin(), *[run.left()] * 2, run.end()])}, ["ledger:3: RecordTwice", counted(0, "h1", 0, 0, "whole")], 5
 
@@ -472,3 +516,38 @@ def accounts():
     run.lanes[0].record, run.lanes[0].left = 8193, 8193
     yield "each-number-but-merged-on-the-way", {"ledger": text([*every_second, *rest, run.end_of_all()])}, [
         counted(0, "h1", 0, 0, "unaccounted"), fates(8193, 0, 8193), more], 3
+
+
+def tampered():
+    """What somebody makes of whole runs with an editor and without a secret, and nothing in a ledger tells, as the pages say."""
+    run = one()
+    lines, whole = [*lines_of(run, 5, False), run.end_of_all()], [counted(0, "h1", 0, 5, "whole"), fates(5, 5, 0)]
+    yield "nothing-was-changed", {"ledger": text(lines)}, whole, 0
+    shorter = told([*lines[:4], lines[6]], entries=3, accepted=3)
+    yield "the-tail-cut-and-the-end-corrected", {"ledger": text(shorter)}, [counted(0, "h1", 0, 3, "whole"), fates(3, 3, 0)], 0
+    swapped = [*lines[:2], changed(lines[3], serial=1), changed(lines[2], serial=2), *lines[4:]]
+    yield "neighbours-swapped-and-renumbered", {"ledger": text(swapped)}, [*whole, backward(0, "h1", 1)], 0
+    yield "neighbours-swapped-with-their-times", {"ledger": text([
+        *lines[:2], changed(swapped[2], time=lines[2]["time"]), changed(swapped[3], time=lines[3]["time"]), *lines[4:]])}, whole, 0
+    yield "a-run-under-another-name", {"ledger": text(changed(line, run=f"{NAME + 1:016x}") for line in lines)}, [
+        line.replace(f"{NAME:016x}", f"{NAME + 1:016x}") for line in whole], 0
+    yield "another-port", {"ledger": text([*lines[:2], changed(lines[2], port=1), *lines[3:]])}, whole, 0
+    yield "a-later-time", {"ledger": text([*lines[:5], changed(lines[5], time="2026-12-31T00:00:00.000Z"), *lines[6:]])}, whole, 0
+    yield "another-version", {"ledger": text([changed(lines[0], version="9"), *lines[1:]])}, whole, 0
+    same_secret = config() + '[[client]]\naddress = "192.0.2.11"\nsecret = "nas-secret"\n'
+    yield "a-client-of-the-same-secret", {"ledger": text([*lines[:2], changed(lines[2], client="192.0.2.11"), *lines[3:]])}, whole, 0, same_secret
+    run = two()
+    both = [run.begin(), run.entry(0), run.entry(1), run.entry(0), run.end_of_all()]
+    struck = [changed(both[0], lanes=both[0]["lanes"][:1]), both[1], both[3], changed(both[4], lanes=both[4]["lanes"][:1])]
+    yield "a-lane-struck-out", {"ledger": text(struck)}, [counted(0, "h1", 0, 2, "whole"), fates(2, 2, 0)], 0
+    other = Run(NAME + 1, [Lane(0, "h1", HOME)])
+    others = [*lines_of(other, 5, False), other.end_of_all()]
+    name, its = f"{NAME:016x}", f"{NAME + 1:016x}"
+    mixed = [*lines[:2], changed(others[2], run=name), *lines[3:], *others[:2], changed(lines[2], run=its), *others[3:]]
+    yield "entries-exchanged-between-runs", {"ledger": text(mixed)}, [*whole, *(line.replace(name, its) for line in whole)], 0
+    moved = [*lines[:6], changed(others[2], run=name, serial=5), told(lines, entries=6)[-1]]
+    yield "an-entry-moved-to-another-run", {"ledger": text(moved)}, [
+        "ledger:7: RecordTwice", f"ledger:8: run {name} lane 0 h1 gap 5 to 5", counted(0, "h1", 0, 5, "gap 5 to 5"), fates(5, 5, 0)], 5
+    yield "begin-of-a-later-file", {"ledger": text([changed(lines[0], file=1), *lines[1:]])}, [counted(0, "h1", 0, 5, "part"), fates(5, 5, 0)], 7
+    raised = [changed(lines[0], lanes=[{"lane": 0, "home": "h1", "serial": 2}]), *lines[3:]]
+    yield "begin's-serial-raised", {"ledger": text(raised)}, [counted(0, "h1", 2, 3, "part"), fates(5, 3, 0)], 7

@@ -1,5 +1,6 @@
 pub mod Cells
 pub mod Facts
+pub mod Files
 pub mod Lines
 pub mod Printed
 pub mod Rows

@@ -14,6 +14,8 @@ use Rattle.rad_audit.specs.declared.printing.FateCounts.{FateCounts}
 use Rattle.rad_audit.specs.declared.printing.FatesLine.{FatesLine}
 use Rattle.rad_audit.specs.declared.printing.RangesLine.{RangesLine}
 use Rattle.rad_audit.specs.declared.printing.BackLine.{BackLine}
+use Rattle.rad_audit.specs.declared.printing.FilesLine.{FilesLine}
+use Rattle.rad_audit.specs.declared.printing.MissingFiles.{MissingFiles}
 use Rattle.rad_audit.specs.declared.printing.BackSteps.{BackSteps}
 
 abbrev pub place_text : Place → List ℕ
@@ -58,3 +60,9 @@ steps_text steps = codes "steps back in time " ++ decimal steps.0
 
 abbrev pub back_line : BackLine → List ℕ
 back_line line = name_text line.name ++ codes " " ++ steps_text line.steps
+
+abbrev pub files_text : MissingFiles → List ℕ
+files_text files = codes "files " ++ decimal files.0.first ++ codes " to " ++ decimal files.0.last ++ codes " missing"
+
+abbrev pub files_line : FilesLine → List ℕ
+files_line line = place_text line.place ++ codes ": run " ++ run_text line.run ++ codes " " ++ files_text line.files

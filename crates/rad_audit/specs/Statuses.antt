@@ -1,10 +1,12 @@
 -- How the program ends (own).
-use Rattle.std.specs.Prelude.{ℕ, Bool, true, false, if◌then◌else◌}
+use Rattle.std.specs.Prelude.{ℕ, Bool, true, false, not, ◌&&◌, ◌||◌, ◌==◌, if◌then◌else◌}
 use Rattle.rad_ledger.specs.declared.tally.Verdict.{Verdict}
-use Rattle.rad_ledger.specs.declared.tally.Verdict.TheVariants.{Whole, Open, Missing, Unaccounted}
+use Rattle.rad_ledger.specs.declared.tally.Verdict.TheVariants.{Whole, Open, Missing, Unaccounted, Part, Contradicted}
 use Rattle.rad_audit.specs.declared.faults.Fault.{Fault}
 use Rattle.rad_audit.specs.declared.faults.Fault.TheVariants.{Usage, File, Configuration, Memory, Output}
+use Rattle.rad_audit.specs.declared.printing.Asked.{Asked}
 use Rattle.rad_audit.specs.declared.printing.Findings.{Findings}
+use Rattle.rad_audit.specs.declared.printing.LaneCounts.{LaneCounts}
 
 -- The exit status of each fault.
 abbrev pub status_of : Fault → ℕ
@@ -14,10 +16,11 @@ status_of (File path) = 4
 status_of Memory = 4
 status_of Output = 4
 
--- The exit status of an audit that came to its end: 5 if a line was wrong, otherwise 3 if a response or a request is missing,
--- otherwise 0.
+-- The exit status of an audit that came to its end, by what was found: the first of these.
 abbrev pub status_at : Findings → ℕ
-status_at f = if f.wrong then 5 else if f.gap then 3 else 0
+status_at f =
+    if f.wrong then 5 else (if f.contradicted then 9 else (if f.file then 8 else (if f.gap then 3
+    else (if f.part then 7 else (if f.nothing then 10 else (if f.unended then 6 else 0))))))
 
 -- Whether a response or a request is missing.
 abbrev pub is_missing : Verdict → Bool
@@ -25,3 +28,38 @@ is_missing Whole = false
 is_missing Open = false
 is_missing (Missing gap) = true
 is_missing Unaccounted = true
+is_missing Part = false
+is_missing Contradicted = false
+
+abbrev pub is_open : Verdict → Bool
+is_open Whole = false
+is_open Open = true
+is_open (Missing gap) = false
+is_open Unaccounted = false
+is_open Part = false
+is_open Contradicted = false
+
+abbrev pub is_contradicted : Verdict → Bool
+is_contradicted Whole = false
+is_contradicted Open = false
+is_contradicted (Missing gap) = false
+is_contradicted Unaccounted = false
+is_contradicted Part = false
+is_contradicted Contradicted = true
+
+-- Whether a lane is a part that nobody asked for: its run begins before it, or some of its lines were not judged.
+abbrev pub is_unasked : Asked → LaneCounts → Bool
+is_unasked asked counts = (counts.late && not (asked.from || asked.partial)) || (not (counts.not_judged == 0) && not asked.partial)
+
+-- What is found with one lane more.
+abbrev pub found_in : Asked → LaneCounts → Findings → Findings
+found_in asked counts f =
+    record {
+      wrong = f.wrong;
+      contradicted = f.contradicted || is_contradicted counts.verdict;
+      file = f.file;
+      gap = f.gap || is_missing counts.verdict;
+      part = f.part || is_unasked asked counts;
+      nothing = false;
+      unended = f.unended || is_open counts.verdict;
+    }

@@ -11,8 +11,8 @@ ghost use Rattle.rad_audit.specs.declared.printing.Findings.{Findings as TheFind
 use crate::faults::Fault;
 use crate::line_room::{LineRoom, Piece};
 use crate::printing::{
-    BackLine, FatesLine, Findings, GapLine, LaneLine, LaneName, Outputs, Place, RangesLine, Report,
-    TornLine, WrongLine,
+    Asked, BackLine, FatesLine, FilesLine, Findings, GapLine, LaneLine, LaneName, MissingFiles,
+    Outputs, Place, RangesLine, Report, TornLine, WrongLine,
 };
 use crate::runs::{Lane, Runs};
 use crate::taking::{Taken, judge_stray, judge_stray_left, take_entry, take_left};
@@ -21,7 +21,7 @@ use ledger_lines::{
 };
 use libc::{STDERR_FILENO, isatty};
 use rad_auth::Secret;
-use rad_ledger::{Entry, Fates, Left, Reason};
+use rad_ledger::{EndCounts, Entry, Fates, Left, Reason};
 use rad_realms::{Config, Home};
 use std::alloc::{AllocError, Global};
 use std::fs;
@@ -43,6 +43,7 @@ pub fn audit_files<R: Runtime, W: Write>(
     rt: &R,
     alloc: Global,
     config: &Config,
+    asked: Asked,
     files: &[&str],
     outputs: Outputs<'_, W>,
 ) -> Result<u8, Fault>
@@ -52,9 +53,15 @@ where
 {
     let report = Report {
         outputs,
+        asked,
         findings: Findings {
             wrong: false,
+            contradicted: false,
+            file: false,
             gap: false,
+            part: false,
+            nothing: true,
+            unended: false,
         },
     };
     let Ok(mut audit) = Audit::new(alloc, config, report) else {
@@ -207,7 +214,7 @@ impl<'a, W: Write> Audit<'a, W> {
         let taken = match read_line(alloc, self.line.as_slice(), &mut self.room) {
             Ok(Line::Entry(entry)) => count_entry(alloc, config, runs, report, place, &entry),
             Ok(Line::Left(left)) => count_left(config, runs, report, place, &left),
-            Ok(Line::Begin(begin)) => take_begin(alloc, runs, &begin),
+            Ok(Line::Begin(begin)) => take_begin(alloc, runs, report, place, &begin),
             Ok(Line::End(end)) => take_end(runs, report, place, &end),
             Err(LineFault::NotALine) => return Ok(false),
             Err(LineFault::OutOfMemory) => return Err(Fault::Memory),
@@ -239,8 +246,9 @@ impl<'a, W: Write> Audit<'a, W> {
         ensures fault { IfErr result (λ fault. fault ≡ Output) }
     {
         for run in self.runs.as_slice() {
+            let late = run.files.begin_late();
             for lane in run.lanes.as_slice() {
-                tell_lane(&mut self.report, run.run, lane)?;
+                tell_lane(&mut self.report, run.run, late, lane)?;
             }
         }
         Ok(self.report.findings.status())
@@ -258,9 +266,20 @@ fn clear_place<R: Runtime>(rt: &R) {
 }
 
 /// A file begins.
-fn take_begin(alloc: Global, runs: &mut Runs, begin: &Begin<'_>) -> Result<(), Fault> {
+fn take_begin<W: Write>(
+    alloc: Global,
+    runs: &mut Runs,
+    report: &mut Report<'_, W>,
+    place: Place<'_>,
+    begin: &Begin<'_>,
+) -> Result<(), Fault> {
+    let run = begin.run;
     match runs.begin(alloc, begin) {
-        Ok(()) => Ok(()),
+        Ok(Some(files)) => {
+            let files = MissingFiles(files);
+            report.files(FilesLine { place, run, files })
+        }
+        Ok(None) => Ok(()),
         Err(_) => Err(Fault::Memory),
     }
 }
@@ -312,8 +331,9 @@ fn count_entry<W: Write>(
     ) {
         Ok(Taken::Wrong(reason)) => report.wrong(WrongLine { place, reason }),
         Ok(Taken::Counted(gap)) => {
+            lane.ending.go_on();
             lane.times.take(moment_of(entry.time));
-            if home.is_none() {
+            if home.is_none() || client.is_none() {
                 lane.not_judged = lane.not_judged.saturating_add(1);
             }
             if let Some(gap) = gap {
@@ -344,16 +364,27 @@ fn count_left<W: Write>(
     };
     match take_left(left, client, &mut lane.account) {
         Ok(Some(reason)) => report.wrong(WrongLine { place, reason }),
-        Ok(None) => report.left_row(place, left),
+        Ok(None) => {
+            lane.ending.go_on();
+            if client.is_none() {
+                lane.not_judged = lane.not_judged.saturating_add(1);
+            }
+            report.left_row(place, left)
+        }
         Err(_) => Err(Fault::Memory),
     }
 }
 
 /// Prints what a lane of a run has.
-fn tell_lane<W: Write>(report: &mut Report<'_, W>, run: u64, lane: &Lane) -> Result<(), Fault>
+fn tell_lane<W: Write>(
+    report: &mut Report<'_, W>,
+    run: u64,
+    begun_late: bool,
+    lane: &Lane,
+) -> Result<(), Fault>
     ensures { IfErr result (λ fault. fault ≡ Output) }
 {
-    report.lane(LaneLine::of(run, lane))?;
+    report.lane(LaneLine::of(run, begun_late, lane))?;
     if let Some(line) = FatesLine::of(run, lane) {
         report.fates(line)?;
     }
@@ -410,7 +441,12 @@ fn take_end<W: Write>(
             report.wrong(WrongLine { place, reason })?;
             continue;
         };
-        lane.account.end(fates_of(count));
+        let fates = fates_of(count);
+        lane.ending.end(EndCounts {
+            entries: count.entries,
+            fates,
+        });
+        lane.account.end(fates);
         if let Some(gap) = lane.tally.end(count.entries) {
             let name = LaneName::of(end.run, lane);
             report.gap(GapLine { place, name, gap })?;

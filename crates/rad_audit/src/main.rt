@@ -6,6 +6,7 @@ mod auditing;
 mod cells;
 mod facts;
 mod faults;
+mod files;
 mod line_room;
 mod printing;
 mod rows;
@@ -24,7 +25,7 @@ ghost use Rattle.rad_audit.specs.declared.printing.Findings.{Findings as TheFind
 
 use auditing::audit_files;
 use faults::Fault;
-use printing::{Findings, Outputs};
+use printing::{Asked, Findings, Outputs};
 use rad_console::{read_at_most, read_configuration};
 use rad_realms::Config;
 use std::alloc::{AllocGlobal, Global};
@@ -34,7 +35,7 @@ use std::io::{self, BufWriter, Error, ErrorKind, Print, Write};
 use std::process::ExitCode;
 use std::rt::{Files, Runtime};
 use streams::Stream;
-use words::{Asked, Words, read_words};
+use words::{Wanted, Words, read_words};
 
 /// The most octets of a configuration's file.
 const MOST_FILE_OCTETS: u64 = 1_048_576;
@@ -69,8 +70,8 @@ where
     ensures { IfOk result (λ status. (found : TheFindings) × (status ≡ status_at found)) }
 {
     match read_words(alloc, arguments)? {
-        Asked::Audit(words) => audit_words(rt, alloc, &words),
-        Asked::Text(text) => print_text(rt, &text),
+        Wanted::Audit(words) => audit_words(rt, alloc, &words),
+        Wanted::Text(text) => print_text(rt, &text),
     }
 }
 
@@ -81,7 +82,12 @@ fn print_text<R: Runtime>(rt: &R, text: &clap::Error) -> Result<u8, Fault>
 {
     let none = Findings {
         wrong: false,
+        contradicted: false,
+        file: false,
         gap: false,
+        part: false,
+        nothing: false,
+        unended: false,
     };
     match print!(rt; "{text}") {
         Ok(()) => Ok(none.status()),
@@ -98,9 +104,9 @@ where
     let config = load(rt, alloc, words.config)?;
     let files = words.files.as_slice();
     if words.rows {
-        print_rows(rt, alloc, &config, files)
+        print_rows(rt, alloc, &config, words.asked, files)
     } else {
-        print_audit(rt, alloc, &config, files)
+        print_audit(rt, alloc, &config, words.asked, files)
     }
 }
 
@@ -109,6 +115,7 @@ fn print_audit<R: Runtime>(
     rt: &R,
     alloc: Global,
     config: &Config,
+    asked: Asked,
     files: &[&str],
 ) -> Result<u8, Fault>
 where
@@ -120,7 +127,7 @@ where
         lines: &mut output,
         rows: None,
     };
-    let audited = audit_files(rt, alloc, config, files, outputs);
+    let audited = audit_files(rt, alloc, config, asked, files, outputs);
     flush(&mut output)?;
     audited
 }
@@ -131,6 +138,7 @@ fn print_rows<R: Runtime>(
     rt: &R,
     alloc: Global,
     config: &Config,
+    asked: Asked,
     files: &[&str],
 ) -> Result<u8, Fault>
 where
@@ -143,7 +151,7 @@ where
         lines: &mut lines,
         rows: Some(&mut rows),
     };
-    let audited = audit_files(rt, alloc, config, files, outputs);
+    let audited = audit_files(rt, alloc, config, asked, files, outputs);
     flush(&mut rows)?;
     flush(&mut lines)?;
     audited

@@ -2,10 +2,10 @@
 
 ghost use Rattle.std.specs.Prelude.{◌≡◌, ◌↔◌, IsOk, IfErr};
 ghost use Rattle.rad_audit.specs.declared.faults.Fault.TheVariants.{Output};
-ghost use Rattle.rad_audit.specs.Statuses.{is_missing as the_is_missing};
+ghost use Rattle.rad_audit.specs.Statuses.{is_contradicted as the_is_contradicted, is_missing as the_is_missing, is_open as the_is_open, is_unasked as the_is_unasked};
 
 use crate::faults::Fault;
-use crate::rows::Row;
+use crate::rows::{Row, RunText};
 use crate::runs::Lane;
 use crate::shown::Shown;
 use rad_ledger::{Entry, Gap, Left, Reason, Verdict, lane_verdict};
@@ -95,16 +95,41 @@ pub struct BackLine<'a> {
 #[derive(Clone, Copy)]
 pub struct BackSteps(pub u64);
 
+/// A line before which files of its run are missing.
+#[derive(Clone, Copy)]
+pub struct FilesLine<'a> {
+    pub place: Place<'a>,
+    /// The name of the run.
+    pub run: u64,
+    /// The numbers of these files.
+    pub files: MissingFiles,
+}
+
+/// Files that are missing.
+#[derive(Clone, Copy)]
+pub struct MissingFiles(pub Gap);
+
 /// What a lane of a run has.
 #[derive(Clone, Copy)]
 pub struct LaneCounts {
     /// The serial of the first response that is looked for.
     pub first: u64,
+    /// Whether the run begins before that, or with a file before the first one that was read.
+    pub late: bool,
     /// How many entries are right.
     pub entries: u64,
-    /// How many of these were not judged.
+    /// How many of these, and of the lines of requests that were left, were not judged, or not all of them.
     pub not_judged: u64,
     pub verdict: Verdict,
+}
+
+/// Which parts are asked for, so that they are no fault.
+#[derive(Clone, Copy)]
+pub struct Asked {
+    /// Runs that begin before what is there.
+    pub from: bool,
+    /// These, and what is judged without the secret of a home server or of a client.
+    pub partial: bool,
 }
 
 /// What was found so far.
@@ -112,13 +137,38 @@ pub struct LaneCounts {
 pub struct Findings {
     /// Whether a line was wrong.
     pub wrong: bool,
+    /// Whether an end line is contradicted.
+    pub contradicted: bool,
+    /// Whether a file is missing.
+    pub file: bool,
     /// Whether a response or a request is missing.
     pub gap: bool,
+    /// Whether a lane is a part that nobody asked for.
+    pub part: bool,
+    /// Whether no lane was found.
+    pub nothing: bool,
+    /// Whether a lane is open.
+    pub unended: bool,
 }
 
 impl Findings {
     ghost use Rattle.std.specs.Prelude.{◌≡◌};
-    ghost use Rattle.rad_audit.specs.Statuses.{status_at};
+    ghost use Rattle.rad_audit.specs.Statuses.{found_in, status_at};
+
+    /// Returns what is found with a lane that has these counts.
+    fn with(self, asked: Asked, counts: LaneCounts) -> Findings
+        ensures { result ≡ found_in asked counts self }
+    {
+        Findings {
+            wrong: self.wrong,
+            contradicted: self.contradicted || is_contradicted(counts.verdict),
+            file: self.file,
+            gap: self.gap || is_missing(counts.verdict),
+            part: self.part || is_unasked(asked, counts),
+            nothing: false,
+            unended: self.unended || is_open(counts.verdict),
+        }
+    }
 
     /// Returns the status that the program ends with.
     pub fn status(&self) -> u8
@@ -126,8 +176,18 @@ impl Findings {
     {
         if self.wrong {
             5
+        } else if self.contradicted {
+            9
+        } else if self.file {
+            8
         } else if self.gap {
             3
+        } else if self.part {
+            7
+        } else if self.nothing {
+            10
+        } else if self.unended {
+            6
         } else {
             0
         }
@@ -151,25 +211,29 @@ impl<'a> LaneName<'a> {
 }
 
 impl<'a> LaneLine<'a> {
-    ghost use Rattle.std.specs.Prelude.{◌≡◌, ℕ, List, string_bytes};
-    ghost use Rattle.rad_ledger.specs.Accounting.{TellsLane};
+    ghost use Rattle.std.specs.Prelude.{◌≡◌, ℕ, List, not, ◌||◌, ◌==◌, IsTrue, string_bytes};
+    ghost use Rattle.rad_ledger.specs.Accounting.{JudgesLane};
     ghost use Rattle.rad_ledger.specs.Counting.{Counts};
     ghost use Rattle.rad_ledger.specs.Numbers.{Keeps};
 
-    /// Returns the line of this lane of a run.
-    pub fn of(run: u64, lane: &'a Lane) -> LaneLine<'a>
+    /// Returns the line of this lane of a run, which may have begun with a file that was not read.
+    pub fn of(run: u64, begun_late: bool, lane: &'a Lane) -> LaneLine<'a>
         ensures name { (result.name.run ≡ run) × (result.name.number ≡ lane.now.number) }
         ensures home { result.name.home.now ≡ string_bytes lane.now.home.0 }
         ensures counts { (result.counts.first ≡ lane.now.tally.first) × (result.counts.entries ≡ lane.now.tally.entries) × (result.counts.not_judged ≡ lane.now.not_judged) }
-        ensures verdict { (serials : List ℕ) (numbers : List ℕ) → Counts lane.now.tally serials → Keeps lane.now.account.numbers numbers → TellsLane lane.now.tally lane.now.account serials numbers result.counts.verdict }
+        ensures late { result.counts.late ≡ (begun_late || not (lane.now.tally.first == 0)) }
+        ensures verdict { (serials : List ℕ) (numbers : List ℕ) → Counts lane.now.tally serials → Keeps lane.now.account.numbers numbers → JudgesLane lane.now.tally lane.now.account lane.now.ending (IsTrue (result.counts.late || not (lane.now.not_judged == 0))) serials numbers result.counts.verdict }
     {
+        let late = begun_late || lane.tally.first() != 0;
+        let part = late || lane.not_judged != 0;
         LaneLine {
             name: LaneName::of(run, lane),
             counts: LaneCounts {
                 first: lane.tally.first(),
+                late,
                 entries: lane.tally.entries(),
                 not_judged: lane.not_judged,
-                verdict: lane_verdict(&lane.tally, &lane.account),
+                verdict: lane_verdict(&lane.tally, &lane.account, &lane.ending, part),
             },
         }
     }
@@ -223,11 +287,13 @@ pub struct Outputs<'a, W> {
 #[derive(Drop)]
 pub struct Report<'a, W> {
     pub outputs: Outputs<'a, W>,
+    pub asked: Asked,
     pub findings: Findings,
 }
 
 impl<W: Write> Report<'_, W> {
-    ghost use Rattle.std.specs.Prelude.{◌||◌, true};
+    ghost use Rattle.std.specs.Prelude.{true};
+    ghost use Rattle.rad_audit.specs.Statuses.{found_in};
 
     /// Tells of a line that is wrong.
     ///
@@ -256,6 +322,15 @@ impl<W: Write> Report<'_, W> {
         ensures fault { IfErr result (λ fault. fault ≡ Output) }
     {
         self.findings.gap = true;
+        written(writeln!(self.outputs.lines, "{line}"))
+    }
+
+    /// Tells of files that are missing.
+    pub fn files(&mut self, line: FilesLine<'_>) -> Result<(), Fault>
+        ensures findings { self.new.findings ≡ record self.old.findings { file = true } }
+        ensures fault { IfErr result (λ fault. fault ≡ Output) }
+    {
+        self.findings.file = true;
         written(writeln!(self.outputs.lines, "{line}"))
     }
 
@@ -314,12 +389,10 @@ impl<W: Write> Report<'_, W> {
 
     /// Tells what a lane of a run has.
     pub fn lane(&mut self, line: LaneLine<'_>) -> Result<(), Fault>
-        ensures findings { self.new.findings ≡ record self.old.findings { gap = self.old.findings.gap || the_is_missing line.entry.counts.verdict } }
+        ensures findings { self.new.findings ≡ found_in self.old.asked line.entry.counts self.old.findings }
         ensures fault { IfErr result (λ fault. fault ≡ Output) }
     {
-        if is_missing(line.counts.verdict) {
-            self.findings.gap = true;
-        }
+        self.findings = self.findings.with(self.asked, line.counts);
         written(writeln!(self.outputs.lines, "{line}"))
     }
 }
@@ -329,6 +402,27 @@ fn is_missing(verdict: Verdict) -> bool
     ensures { result ≡ the_is_missing verdict }
 {
     matches!(verdict, Verdict::Missing(_) | Verdict::Unaccounted)
+}
+
+/// Whether no end line counts what is there.
+fn is_open(verdict: Verdict) -> bool
+    ensures { result ≡ the_is_open verdict }
+{
+    matches!(verdict, Verdict::Open)
+}
+
+/// Whether an end line is contradicted.
+fn is_contradicted(verdict: Verdict) -> bool
+    ensures { result ≡ the_is_contradicted verdict }
+{
+    matches!(verdict, Verdict::Contradicted)
+}
+
+/// Whether a lane is a part that nobody asked for.
+fn is_unasked(asked: Asked, counts: LaneCounts) -> bool
+    ensures { result ≡ the_is_unasked asked counts }
+{
+    (counts.late && !(asked.from || asked.partial)) || (counts.not_judged != 0 && !asked.partial)
 }
 
 /// Returns the fault of a line that can't be printed.
@@ -482,6 +576,32 @@ impl fmt::Display for BackSteps {
     fn fmt<W: fmt::Write>(&self, f: &mut fmt::Formatter<W>) -> fmt::Result {
         let steps = self.0;
         write!(f, "steps back in time {steps}")
+    }
+}
+
+impl fmt::Display for FilesLine<'_> {
+    ghost use Rattle.std.specs.Prelude.{Some};
+    ghost use Rattle.rad_audit.specs.Printed.{files_line};
+
+    ghost output = { λ line. Some (files_line line) };
+
+    fn fmt<W: fmt::Write>(&self, f: &mut fmt::Formatter<W>) -> fmt::Result {
+        let place = self.place;
+        let run = RunText(self.run);
+        let files = self.files;
+        write!(f, "{place}: run {run} {files}")
+    }
+}
+
+impl fmt::Display for MissingFiles {
+    ghost use Rattle.std.specs.Prelude.{Some};
+    ghost use Rattle.rad_audit.specs.Printed.{files_text};
+
+    ghost output = { λ files. Some (files_text files) };
+
+    fn fmt<W: fmt::Write>(&self, f: &mut fmt::Formatter<W>) -> fmt::Result {
+        let (first, last) = (self.0.first, self.0.last);
+        write!(f, "files {first} to {last} missing")
     }
 }
 

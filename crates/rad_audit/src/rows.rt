@@ -40,7 +40,7 @@ pub struct RecordName<'a> {
 
 /// The name of a run, as sixteen hexadecimal digits.
 #[derive(Clone, Copy)]
-struct RunText(u64);
+pub struct RunText(pub u64);
 
 /// The row of a record.
 #[derive(Clone, Copy)]

@@ -1,9 +1,10 @@
 //! What is known of each run and its lanes.
 
+use crate::files::RunFiles;
 use crate::shown::Word;
 use crate::times::Times;
 use ledger_lines::{Begin, LaneStart};
-use rad_ledger::{Account, Tally};
+use rad_ledger::{Account, Ending, Gap, Tally};
 use std::alloc::{AllocError, Global};
 use std::collections::BTreeMap;
 
@@ -17,9 +18,12 @@ pub struct Lane {
     pub tally: Tally,
     /// The numbers of these entries and of the requests that were left.
     pub account: Account,
+    /// What the end lines say.
+    pub ending: Ending,
     /// The moments of these entries.
     pub times: Times,
-    /// How many of these were not judged, because the configuration does not have the home server.
+    /// How many of these lines were not judged, or not all of them, because the configuration does not have the home server or
+    /// the client.
     pub not_judged: u64,
 }
 
@@ -28,6 +32,8 @@ pub struct Lane {
 pub struct Run {
     /// Its name.
     pub run: u64,
+    /// Its files that were read.
+    pub files: RunFiles,
     pub lanes: Vec<Lane>,
 }
 
@@ -54,22 +60,44 @@ impl Runs {
         self.runs.as_slice()
     }
 
-    /// Adds the run that the first line of a file names, if it is not known yet.
+    /// Adds the run that the first line of a file names, if it is not known yet. Returns which of its files are missing
+    /// before this one, if any are.
     ///
     /// # Errors
     ///
     /// `AllocError` if memory is refused. The run then has no lanes.
-    pub fn begin(&mut self, alloc: Global, begin: &Begin<'_>) -> Result<(), AllocError> {
-        if self.place_of(begin.run).is_some() {
-            return Ok(());
+    pub fn begin(&mut self, alloc: Global, begin: &Begin<'_>) -> Result<Option<Gap>, AllocError> {
+        if let Some(files) = self.files_of(begin.run) {
+            return Ok(files.take(begin.file));
         }
+        self.add(alloc, begin)?;
+        Ok(None)
+    }
+
+    /// Returns the files of a run, if it is known.
+    fn files_of(&mut self, run: u64) -> Option<&mut RunFiles> {
+        let place = self.place_of(run)?;
+        match self.runs.get_mut(place) {
+            Some(run) => Some(&mut run.files),
+            None => None,
+        }
+    }
+
+    /// Adds the run that the first line of a file names.
+    fn add(&mut self, alloc: Global, begin: &Begin<'_>) -> Result<(), AllocError> {
         let run = begin.run;
         self.name(run)?;
         let mut lanes = Vec::with_capacity(alloc, begin.lanes.len())?;
         match add_lanes(alloc, &mut lanes, begin) {
-            Ok(()) => push(&mut self.runs, Run { run, lanes }),
+            Ok(()) => self.push(run, begin.file, lanes),
             Err(refused) => Err(refused),
         }
+    }
+
+    /// Adds a run that is known from the file of this number on.
+    fn push(&mut self, run: u64, file: u64, lanes: Vec<Lane>) -> Result<(), AllocError> {
+        let files = RunFiles::from(file);
+        push(&mut self.runs, Run { run, files, lanes })
     }
 
     /// Keeps the place at which a run comes next.
@@ -112,6 +140,7 @@ fn lane_of(alloc: Global, start: &LaneStart<'_>) -> Result<Lane, AllocError> {
         home: Word::new(alloc, start.home)?,
         tally: Tally::new(start.serial),
         account: Account::new(alloc),
+        ending: Ending::new(),
         times: Times::new(),
         not_judged: 0,
     })

@@ -1,6 +1,7 @@
 //! The words that the program is called with.
 
 use crate::faults::Fault;
+use crate::printing::Asked;
 use clap::error::ErrorKind;
 use clap::{Arg, ArgAction, ArgMatches, Command};
 use std::alloc::{AllocError, Global};
@@ -10,7 +11,7 @@ const VERSION: &str = "0.1.0";
 
 /// What the words ask for.
 #[derive(Drop)]
-pub enum Asked<'a> {
+pub enum Wanted<'a> {
     /// An audit.
     Audit(Words<'a>),
     /// The text of `--help`, or of `--version`.
@@ -22,6 +23,8 @@ pub enum Asked<'a> {
 pub struct Words<'a> {
     /// Whether a row is printed for each record.
     pub rows: bool,
+    /// Which parts are asked for.
+    pub asked: Asked,
     /// The configuration's.
     pub config: &'a str,
     /// The ledgers', in the order in which they are read.
@@ -33,7 +36,7 @@ pub struct Words<'a> {
 /// # Errors
 ///
 /// `Usage` for words of any other form, `Memory` if a growth is refused.
-pub fn read_words(alloc: Global, words: &[String]) -> Result<Asked<'_>, Fault> {
+pub fn read_words(alloc: Global, words: &[String]) -> Result<Wanted<'_>, Fault> {
     let Ok(command) = command(alloc) else {
         return Err(Fault::Memory);
     };
@@ -42,13 +45,13 @@ pub fn read_words(alloc: Global, words: &[String]) -> Result<Asked<'_>, Fault> {
         Err(error) => {
             return match error.kind() {
                 ErrorKind::OutOfMemory => Err(Fault::Memory),
-                ErrorKind::DisplayHelp | ErrorKind::DisplayVersion => Ok(Asked::Text(error)),
+                ErrorKind::DisplayHelp | ErrorKind::DisplayVersion => Ok(Wanted::Text(error)),
                 _ => Err(Fault::Usage),
             };
         }
     };
     match words_of(alloc, &matches) {
-        Ok(words) => Ok(Asked::Audit(words)),
+        Ok(words) => Ok(Wanted::Audit(words)),
         Err(fault) => Err(fault),
     }
 }
@@ -59,9 +62,14 @@ fn words_of<'a>(alloc: Global, matches: &ArgMatches<'a>) -> Result<Words<'a>, Fa
         return Err(Fault::Usage);
     };
     let rows = matches.get_flag("rows");
+    let asked = Asked {
+        from: matches.get_flag("from"),
+        partial: matches.get_flag("partial"),
+    };
     match files.to_vec(alloc) {
         Ok(files) => Ok(Words {
             rows,
+            asked,
             config,
             files,
         }),
@@ -75,6 +83,8 @@ fn command<'a>(alloc: Global) -> Result<Command<'a>, AllocError> {
         .version(VERSION)
         .about("Audits ledgers of rad_proxy. rad_audit(1) says what it prints.")
         .arg(rows_word(alloc))?;
+    let command = command.arg(from_word(alloc))?;
+    let command = command.arg(partial_word(alloc))?;
     let command = command.arg(config_word(alloc))?;
     command.arg(file_words(alloc))
 }
@@ -84,6 +94,22 @@ fn rows_word<'a>(alloc: Global) -> Arg<'a> {
     Arg::new(alloc, "rows")
         .long("rows")
         .help("Print a row for each entry that is right, and all else on standard error")
+        .action(ArgAction::SetTrue)
+}
+
+/// Returns the word `--from`.
+fn from_word<'a>(alloc: Global) -> Arg<'a> {
+    Arg::new(alloc, "from")
+        .long("from")
+        .help("The first files of a run are left out")
+        .action(ArgAction::SetTrue)
+}
+
+/// Returns the word `--partial`.
+fn partial_word<'a>(alloc: Global) -> Arg<'a> {
+    Arg::new(alloc, "partial")
+        .long("partial")
+        .help("They are, or the configuration lacks home servers or clients")
         .action(ArgAction::SetTrue)
 }
 

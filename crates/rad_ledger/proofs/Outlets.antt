@@ -11,7 +11,7 @@ use Rattle.rad_ledger.specs.Outlets.{serials_of, AreAllGiven}
 use Rattle.rad_ledger.specs.declared.tally.Tally.{Tally}
 use Rattle.rad_ledger.specs.declared.tally.Gap.{Gap}
 use Rattle.rad_ledger.specs.declared.tally.Verdict.{Verdict}
-use Rattle.rad_ledger.specs.declared.tally.Verdict.TheVariants.{Whole, Open, Missing, Unaccounted}
+use Rattle.rad_ledger.specs.declared.tally.Verdict.TheVariants.{Whole, Open, Missing, Unaccounted, Part, Contradicted}
 
 -- where the serials go on, there is no gap between them
 no_gap : (first : ℕ) (serials : List ℕ) (gap : Gap) → GoOnFrom first serials → IsFirstGap first serials gap → ⊥
@@ -34,6 +34,8 @@ module _ (tally : Tally) (serials : List ℕ) where
       let less : cut.count < tally.first + length serials = subst (λ o. IfSome o (λ n. n < tally.first + length serials)) cut.ended is.unended in
       absurd (omega (arith, less, cut.from, cut.to, cut.some))
   open_alone is Unaccounted t = absurd t
+  open_alone is Part t = absurd t
+  open_alone is Contradicted t = absurd t
 
   pub open_exactly : (verdict : Verdict) → Tells tally serials verdict → (verdict ≡ Open) ↔ IsOpen tally serials
   open_exactly verdict t = (λ e. subst (λ v. Tells tally serials v) e t, λ is. open_alone is verdict t)
@@ -63,6 +65,8 @@ module _ (tally : Tally) (given : List Outgoing) (from_zero : tally.first ≡ 0)
     all_is_whole (Missing gap) (inl g) = absurd (no_gap tally.first (serials_of given) gap goes_on g)
     all_is_whole (Missing gap) (inr cut) = absurd (omega (arith, same_count cut.count cut.ended, cut.from, cut.to, cut.some, from_zero, long))
     all_is_whole Unaccounted t = absurd t
+    all_is_whole Part t = absurd t
+    all_is_whole Contradicted t = absurd t
 
   pub whole_exactly : (verdict : Verdict) → Tells tally (serials_of given) verdict → (verdict ≡ Whole) ↔ AreAllGiven tally given
   whole_exactly verdict t = (λ e. whole_is_all (subst (λ v. Tells tally (serials_of given) v) e t), λ a. all_is_whole a verdict t)

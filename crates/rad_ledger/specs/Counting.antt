@@ -5,7 +5,7 @@ use Rattle.std.specs.Option.{option_map_or}
 use Rattle.rad_ledger.specs.declared.tally.Tally.{Tally}
 use Rattle.rad_ledger.specs.declared.tally.Gap.{Gap}
 use Rattle.rad_ledger.specs.declared.tally.Verdict.{Verdict}
-use Rattle.rad_ledger.specs.declared.tally.Verdict.TheVariants.{Whole, Open, Missing, Unaccounted}
+use Rattle.rad_ledger.specs.declared.tally.Verdict.TheVariants.{Whole, Open, Missing, Unaccounted, Part, Contradicted}
 
 -- The serials go on from the first one, none left out: 0, 1, 2 and so on where that is 0.
 abbrev pub GoOnFrom : ℕ → List ℕ → Type 0
@@ -47,6 +47,10 @@ pub record IsOpen (tally : Tally) (serials : List ℕ) : Type 0 where
   pub goes_on : GoOnFrom tally.first serials
   pub unended : IfSome tally.end (λ count. count < tally.first + length serials)
 
+-- An end line counts fewer responses than there are up to the last entry.
+abbrev pub IsPassed : Tally → List ℕ → Type 0
+IsPassed tally serials = MatchOption tally.end ⊥ (λ count. count < next_after tally.first serials)
+
 -- The first gap: between two entries, or behind the last one, up to the end line's count.
 pub record IsCutShort (tally : Tally) (serials : List ℕ) (gap : Gap) : Type 0 where
   pub count : ℕ
@@ -61,3 +65,5 @@ Tells tally serials Whole = IsWhole tally serials
 Tells tally serials Open = IsOpen tally serials
 Tells tally serials (Missing gap) = IsFirstGap tally.first serials gap ⊎ IsCutShort tally serials gap
 Tells tally serials Unaccounted = ⊥
+Tells tally serials Part = ⊥
+Tells tally serials Contradicted = ⊥

@@ -5,7 +5,7 @@ use Rattle.rad_ledger.specs.declared.reason.Reason.{Reason}
 use Rattle.rad_ledger.specs.declared.reason.Reason.TheVariants.{NotEntry, NoPacket, WrongSent, WrongReply, WrongResponse, SerialNotAbove, UnknownLane, RecordTwice, WrongWords}
 use Rattle.rad_ledger.specs.declared.tally.Gap.{Gap}
 use Rattle.rad_ledger.specs.declared.tally.Verdict.{Verdict}
-use Rattle.rad_ledger.specs.declared.tally.Verdict.TheVariants.{Whole, Open, Missing, Unaccounted}
+use Rattle.rad_ledger.specs.declared.tally.Verdict.TheVariants.{Whole, Open, Missing, Unaccounted, Part, Contradicted}
 
 abbrev pub reason_text : Reason → List ℕ
 reason_text NotEntry = codes "NotEntry"
@@ -26,3 +26,5 @@ verdict_text Whole = codes "whole"
 verdict_text Open = codes "open"
 verdict_text (Missing gap) = gap_text gap
 verdict_text Unaccounted = codes "unaccounted"
+verdict_text Part = codes "part"
+verdict_text Contradicted = codes "contradicted"

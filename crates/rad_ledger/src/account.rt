@@ -1,10 +1,11 @@
 //! What became of the requests that a lane accepted in a run.
 
-ghost use Rattle.std.specs.Prelude.{ℕ, List};
+ghost use Rattle.std.specs.Prelude.{◌≡◌, ◌↔◌, ◌+◌, ℕ, List, IsTrue};
 ghost use Rattle.rad_ledger.specs.Counting.{Counts};
 ghost use Rattle.rad_ledger.specs.Numbers.{Keeps};
-ghost use Rattle.rad_ledger.specs.Accounting.{TellsLane};
+ghost use Rattle.rad_ledger.specs.Accounting.{JudgesLane, TellsLane};
 
+use crate::ending::Ending;
 use crate::numbers::Numbers;
 use crate::tally::{Tally, Verdict};
 use std::alloc::{AllocError, Global};
@@ -31,7 +32,7 @@ pub struct Account {
 
 impl Account {
     ghost use Rattle.std.specs.Prelude.{◌≡◌, ◌↔◌, ◌+◌, ◌^◌, ◌-◌, ◌++◌, [], ◌∷◌, ℕ, List, None, min, IsTrue, IfOk, OnErr, MatchBool};
-    ghost use Rattle.rad_ledger.specs.Numbers.{IsAsBefore, IsKnown, Keeps};
+    ghost use Rattle.rad_ledger.specs.Numbers.{IsAsBefore, IsEachOnce, IsKnown, Keeps};
     ghost use Rattle.rad_ledger.specs.Accounting.{IsSettled};
 
     /// Returns the account of a lane without lines.
@@ -114,28 +115,59 @@ impl Account {
         self.told = told;
     }
 
-    /// Whether of so many entries and the requests that were left each is accounted for, as an end line says it.
-    pub fn is_settled(&self, entries: u64) -> bool
-        ensures { (all : List ℕ) → Keeps self.now.numbers all → IsTrue result ↔ IsSettled self.now entries all }
+    /// Whether of so many entries from this serial on and the requests that were left each is accounted for, as an end line
+    /// says it.
+    pub fn is_settled(&self, first: u64, entries: u64) -> bool
+        ensures { (all : List ℕ) → Keeps self.now.numbers all → IsTrue result ↔ IsSettled self.now first entries all }
     {
         match self.told {
             None => self.numbers.is_exact(),
             Some(told) => {
-                self.numbers.are_all_below(told.accepted)
+                self.are_known(first, told.accepted)
                     && told.left == self.left
-                    && self.left <= told.accepted
-                    && entries == told.accepted - self.left
+                    && is_sum(first, entries, self.left, told.accepted)
             }
+        }
+    }
+
+    /// Whether of each request it is known whether its number stands in a line, and if the first serial is 0, whether exactly
+    /// the numbers below this one do, each once.
+    fn are_known(&self, first: u64, accepted: u64) -> bool
+        ensures { (all : List ℕ) → Keeps self.now.numbers all → IsTrue result ↔ ((self.now.numbers.exact_from ≡ 0) × (first ≡ 0 → IsEachOnce accepted all)) }
+    {
+        if first == 0 {
+            self.numbers.are_all_below(accepted)
+        } else {
+            self.numbers.is_exact()
         }
     }
 }
 
-/// Returns what the lines of a lane show together.
-pub fn lane_verdict(tally: &Tally, account: &Account) -> Verdict
-    ensures { (serials : List ℕ) (numbers : List ℕ) → Counts tally.now serials → Keeps account.now.numbers numbers → TellsLane tally.now account.now serials numbers result }
+/// Whether these three numbers are together as much as another one.
+fn is_sum(first: u64, entries: u64, left: u64, all: u64) -> bool
+    ensures { IsTrue result ↔ (first + entries + left ≡ all) }
+{
+    left <= all && first <= all - left && entries == all - left - first
+}
+
+/// Returns what the lines of a lane show together. It is a part if the run begins before it, or if not all of it was judged.
+pub fn lane_verdict(tally: &Tally, account: &Account, ending: &Ending, part: bool) -> Verdict
+    ensures { (serials : List ℕ) (numbers : List ℕ) → Counts tally.now serials → Keeps account.now.numbers numbers → JudgesLane tally.now account.now ending.now (IsTrue part) serials numbers result }
+{
+    if ending.is_contradicted() || tally.is_passed() {
+        return Verdict::Contradicted;
+    }
+    told_verdict(tally, account, part)
+}
+
+/// Returns what the lines of a lane show together, if nothing contradicts an end line.
+fn told_verdict(tally: &Tally, account: &Account, part: bool) -> Verdict
+    ensures { (serials : List ℕ) (numbers : List ℕ) → Counts tally.now serials → Keeps account.now.numbers numbers → TellsLane tally.now account.now (IsTrue part) serials numbers result }
 {
     match tally.verdict() {
-        Verdict::Whole if !account.is_settled(tally.entries()) => Verdict::Unaccounted,
+        Verdict::Whole if !account.is_settled(tally.first(), tally.entries()) =>
+            Verdict::Unaccounted,
+        Verdict::Whole if part => Verdict::Part,
         verdict => verdict,
     }
 }

@@ -8,6 +8,7 @@
 #![tactic(auto)]
 
 mod account;
+mod ending;
 mod entry;
 mod judging;
 mod leaving;
@@ -18,6 +19,7 @@ mod reason;
 mod tally;
 
 pub use account::{Account, Fates, lane_verdict};
+pub use ending::{EndCounts, Ending};
 pub use entry::Entry;
 pub use judging::judge;
 pub use leaving::judge_left;

@@ -42,6 +42,10 @@ pub enum Verdict {
     Missing(Gap),
     /// No response is missing, but not each request that was accepted stands in one line.
     Unaccounted,
+    /// It is whole as far as it goes: the run begins before what is there, or not all of it was judged.
+    Part,
+    /// A line behind an end line shows that this was not the end, or what it counts is not what is there.
+    Contradicted,
 }
 
 /// What is counted of one lane of a run: the entries that are right, in the order of their lines.
@@ -62,11 +66,11 @@ pub struct Tally {
 }
 
 impl Tally {
-    ghost use Rattle.std.specs.Prelude.{◌≡◌, ◌↔◌, ◌≤◌, ◌<◌, ◌^◌, ◌++◌, [], ◌∷◌, ℕ, List, Some, None, OnOk, IfOk, IfErr};
+    ghost use Rattle.std.specs.Prelude.{◌≡◌, ◌↔◌, ◌≤◌, ◌<◌, ◌^◌, ◌++◌, [], ◌∷◌, ℕ, List, Some, None, IsTrue, OnOk, IfOk, IfErr};
     ghost use Rattle.rad_lane.specs.declared.outgoing.Outgoing.{Outgoing};
     ghost use Rattle.rad_ledger.specs.declared.reason.Reason.TheVariants.{SerialNotAbove};
     ghost use Rattle.rad_ledger.specs.declared.tally.Verdict.TheVariants.{Open, Whole};
-    ghost use Rattle.rad_ledger.specs.Counting.{Counts, IsOpen, LeavesGap, Tells};
+    ghost use Rattle.rad_ledger.specs.Counting.{Counts, IsOpen, IsPassed, LeavesGap, Tells};
     ghost use Rattle.rad_ledger.specs.Outlets.{AreAllGiven, serials_of};
 
     /// Returns the tally of a lane without entries whose next response has this serial.
@@ -97,6 +101,16 @@ impl Tally {
         ensures { result ≡ self.now.next }
     {
         self.next
+    }
+
+    /// Whether an end line counts fewer responses than there are up to the last entry.
+    pub fn is_passed(&self) -> bool
+        ensures { (serials : List ℕ) → Counts self.now serials → IsTrue result ↔ IsPassed self.now serials }
+    {
+        match self.end {
+            Some(count) => count < self.next,
+            None => false,
+        }
     }
 
     /// Returns how many entries there are.
@@ -200,6 +214,8 @@ impl fmt::Display for Verdict {
             Verdict::Open => f.write_str("open"),
             Verdict::Missing(gap) => write!(f, "{gap}"),
             Verdict::Unaccounted => f.write_str("unaccounted"),
+            Verdict::Part => f.write_str("part"),
+            Verdict::Contradicted => f.write_str("contradicted"),
         }
     }
 }
