@@ -132,15 +132,14 @@ def times_of(figures, name, rate):
 
 
 def of_latency(figures):
-    subjects = figures.subjects("latency")
+    subjects = [name for name in figures.subjects("latency") if name != NAMES[0]]
     rows = []
     for rate in figures.each("rate", "latency"):
         for name in subjects:
             rows.append([number(rate), name, *times_of(figures, name, rate)])
-        for words, peer in (TO_LEAST, LEAST), (BETWEEN, PEER):
-            if {OURS, peer} <= set(subjects):
-                ratios = [number(figures.ratio(key, "latency", peer=peer, rate=rate), 2) for key, _ in TIMES]
-                rows.append([number(rate), words, *ratios])
+        if {OURS, PEER} <= set(subjects):
+            ratios = [number(figures.ratio(key, "latency", rate=rate), 2) for key, _ in TIMES]
+            rows.append([number(rate), BETWEEN, *ratios])
     return table(["a second", "", "p50", "p99", "p99.9"], rows)
 
 
