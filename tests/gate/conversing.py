@@ -218,13 +218,18 @@ class Talk:
         self.head("The home server falls silent. A record is sent again, and the home server is marked down.",
                   "The next record is accepted, and waits.")
         begun = time.monotonic()
+
+        def passed():
+            """Milliseconds. The program counts whole ones, so what it waits for may be less than one shorter."""
+            return 1000 * (time.monotonic() - begun)
+
         sent = self.asks("Start", b"S2")
         self.is_forwarded(sent)
         for number in range(1, tries):
             self.is_sent_again(sent, "", f", after {wait << number - 1} ms without a reply")
-            need(time.monotonic() - begun >= wait * ((1 << number) - 1) / 1000, "it is sent again too early")
+            need(passed() > wait * ((1 << number) - 1) - 1, "it is sent again too early")
         need(is_so(lambda: self.proxy.lines("down")), "the home server is not marked down")
-        need(time.monotonic() - begun >= wait * ((1 << tries) - 1) / 1000, "the home server is marked down too early")
+        need(passed() > wait * ((1 << tries) - 1) - 1, "the home server is marked down too early")
         self.note("", f"the home server is marked down, {wait << tries - 1} ms later")
         self.is_probed()
         waiting = self.asks("Interim", b"S2")
