@@ -4,7 +4,7 @@ ghost use Rattle.std.specs.Prelude.{◌≡◌, IfOk, OnOk};
 ghost use Rattle.ledger_lines.specs.Lines.{state_text as the_state_text};
 ghost use Rattle.ledger_lines.specs.Written.{HasLineBehind};
 
-use crate::begin::{Begin, End, LaneCount, LaneStart};
+use crate::begin::{Begin, End, FileBefore, LaneCount, LaneStart};
 use json::Writer;
 use rad_ledger::{Entry, Left, LeftState};
 use std::alloc::{AllocError, Global};
@@ -77,12 +77,38 @@ fn begin_members(alloc: Global, writer: &mut Writer, begin: &Begin<'_>) -> Resul
     first_members(alloc, writer, "begin", begin.run, begin.time)?;
     text(writer, "version", begin.version)?;
     number(writer, "file", begin.file)?;
+    digits_if_any(alloc, writer, "sum", begin.sum)?;
+    before_if_any(alloc, writer, begin.before)?;
     writer.key("lanes")?;
     writer.begin_array()?;
     for lane in begin.lanes.iter() {
         lane_start(writer, lane)?;
     }
     writer.end_array()?;
+    writer.end_object()
+}
+
+/// Writes the file of another run that such a line names, if it names one.
+fn before_if_any(
+    alloc: Global,
+    writer: &mut Writer,
+    before: Option<FileBefore<'_>>,
+) -> Result<(), AllocError>
+    ensures { OnOk result (writer.new.before ≡ writer.old.before) }
+{
+    let Some(file) = before else {
+        return Ok(());
+    };
+    let FileBefore {
+        name,
+        octets,
+        sha256,
+    } = file;
+    writer.key("before")?;
+    writer.begin_object()?;
+    text(writer, "name", name)?;
+    number(writer, "octets", octets)?;
+    digits(alloc, writer, "sha256", &sha256)?;
     writer.end_object()
 }
 
@@ -206,6 +232,7 @@ fn end_members(alloc: Global, writer: &mut Writer, end: &End<'_>) -> Result<(), 
     ensures { OnOk result (writer.new.before ≡ writer.old.before) }
 {
     first_members(alloc, writer, "end", end.run, end.time)?;
+    digits_if_any(alloc, writer, "sum", end.sum)?;
     writer.key("lanes")?;
     writer.begin_array()?;
     for lane in end.lanes.iter() {
@@ -296,6 +323,21 @@ fn digits(alloc: Global, writer: &mut Writer, key: &str, octets: &[u8]) -> Resul
 {
     let digits = hex::encode(alloc, octets)?;
     text(writer, key, digits.as_str())
+}
+
+/// A SHA-256 as digits, where there is one.
+fn digits_if_any(
+    alloc: Global,
+    writer: &mut Writer,
+    key: &str,
+    sum: Option<[u8; 32]>,
+) -> Result<(), AllocError>
+    ensures { OnOk result (writer.new.before ≡ writer.old.before) }
+{
+    match sum {
+        Some(sum) => digits(alloc, writer, key, &sum),
+        None => Ok(()),
+    }
 }
 
 /// Octets that may be a text: under the one key as the text that they are, else under the other as digits.
