@@ -1,5 +1,7 @@
 pub mod Cells
+pub mod Chained
 pub mod Facts
+pub mod Kept
 pub mod Lines
 pub mod Printed
 pub mod Rows

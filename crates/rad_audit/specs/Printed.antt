@@ -2,6 +2,7 @@
 use Rattle.std.specs.Prelude.{ℕ, ◌^◌, ◌-◌, false, List, [], ◌++◌, codes}
 use Rattle.std.specs.Fmt.{decimal, digits, format_spec, padded_integral}
 use Rattle.rad_ledger.specs.Printed.{gap_text, reason_text, verdict_text}
+use Rattle.rad_ledger.specs.declared.reason.Reason.TheVariants.{WrongSum}
 use Rattle.rad_audit.specs.Shown.{word_text}
 use Rattle.rad_audit.specs.declared.printing.Place.{Place}
 use Rattle.rad_audit.specs.declared.printing.LaneName.{LaneName}
@@ -15,6 +16,8 @@ use Rattle.rad_audit.specs.declared.printing.FatesLine.{FatesLine}
 use Rattle.rad_audit.specs.declared.printing.RangesLine.{RangesLine}
 use Rattle.rad_audit.specs.declared.printing.BackLine.{BackLine}
 use Rattle.rad_audit.specs.declared.printing.BackSteps.{BackSteps}
+use Rattle.rad_audit.specs.declared.printing.HiddenLine.{HiddenLine}
+use Rattle.rad_audit.specs.declared.printing.SumLine.{SumLine}
 
 abbrev pub place_text : Place → List ℕ
 place_text place = word_text place.file.now ++ codes ":" ++ decimal place.line
@@ -58,3 +61,9 @@ steps_text steps = codes "steps back in time " ++ decimal steps.0
 
 abbrev pub back_line : BackLine → List ℕ
 back_line line = name_text line.name ++ codes " " ++ steps_text line.steps
+
+abbrev pub hidden_line : HiddenLine → List ℕ
+hidden_line line = codes "run " ++ run_text line.run ++ codes " hidden " ++ decimal line.count
+
+abbrev pub sum_line : SumLine → List ℕ
+sum_line line = word_text line.word.now ++ codes ": " ++ reason_text WrongSum

@@ -9,15 +9,16 @@ ghost use Rattle.rad_audit.specs.declared.faults.Fault.TheVariants.{Output};
 ghost use Rattle.rad_audit.specs.declared.printing.Findings.{Findings as TheFindings};
 
 use crate::faults::Fault;
+use crate::kept_sums::KeptSums;
 use crate::line_room::{LineRoom, Piece};
 use crate::printing::{
-    BackLine, FatesLine, Findings, GapLine, LaneLine, LaneName, Outputs, Place, RangesLine, Report,
-    TornLine, WrongLine,
+    BackLine, FatesLine, Findings, GapLine, HiddenLine, LaneLine, LaneName, Outputs, Place, RangesLine,
+    Report, SumLine, TornLine, WrongLine,
 };
-use crate::runs::{Lane, Runs};
+use crate::runs::{Lane, Run, Runs};
 use crate::taking::{Taken, judge_stray, judge_stray_left, take_entry, take_left};
 use ledger_lines::{
-    Begin, End, LaneCount, Line, LineFault, MOST_LINE_OCTETS, Room, moment_of, read_line,
+    Begin, End, Hidden, LaneCount, Line, LineFault, MOST_LINE_OCTETS, Room, moment_of, read_line,
 };
 use libc::{STDERR_FILENO, isatty};
 use rad_auth::Secret;
@@ -34,7 +35,8 @@ const READ_OCTETS: usize = 262_144;
 /// After so many lines of a file standard error tells how far the audit is, where that is a terminal.
 const LINES_APART: u64 = 65_536;
 
-/// Audits the ledgers in these files, in this order, and prints what it finds. Returns the status.
+/// Audits the ledgers in these files, in this order, and prints what it finds, also of sums that somebody kept. Returns the
+/// status.
 ///
 /// # Errors
 ///
@@ -44,6 +46,7 @@ pub fn audit_files<R: Runtime, W: Write>(
     alloc: Global,
     config: &Config,
     files: &[&str],
+    sums: KeptSums<'_>,
     outputs: Outputs<'_, W>,
 ) -> Result<u8, Fault>
 where
@@ -57,7 +60,7 @@ where
             gap: false,
         },
     };
-    let Ok(mut audit) = Audit::new(alloc, config, report) else {
+    let Ok(mut audit) = Audit::new(alloc, config, sums, report) else {
         return Err(Fault::Memory);
     };
     audit.read_files(rt, files)
@@ -80,6 +83,7 @@ struct Audit<'a, W> {
     line: LineRoom,
     held: Held,
     runs: Runs,
+    sums: KeptSums<'a>,
     report: Report<'a, W>,
 }
 
@@ -87,6 +91,7 @@ impl<'a, W: Write> Audit<'a, W> {
     fn new(
         alloc: Global,
         config: &'a Config,
+        sums: KeptSums<'a>,
         report: Report<'a, W>,
     ) -> Result<Audit<'a, W>, AllocError> {
         let octets = Vec::with_capacity(alloc, MOST_LINE_OCTETS)?;
@@ -98,6 +103,7 @@ impl<'a, W: Write> Audit<'a, W> {
             line,
             held: Held { octets, line: None },
             runs: Runs::new(alloc),
+            sums,
             report,
         })
     }
@@ -203,12 +209,24 @@ impl<'a, W: Write> Audit<'a, W> {
     #[tactic(auto, using(crate::proofs::Entries::serial_of_line))]
     fn take_read(&mut self, place: Place<'_>) -> Result<bool, Fault> {
         let (alloc, config) = (self.alloc, self.config);
-        let (runs, report) = (&mut self.runs, &mut self.report);
-        let taken = match read_line(alloc, self.line.as_slice(), &mut self.room) {
-            Ok(Line::Entry(entry)) => count_entry(alloc, config, runs, report, place, &entry),
-            Ok(Line::Left(left)) => count_left(config, runs, report, place, &left),
-            Ok(Line::Begin(begin)) => take_begin(alloc, runs, &begin),
-            Ok(Line::End(end)) => take_end(runs, report, place, &end),
+        let (runs, sums, report) = (&mut self.runs, &mut self.sums, &mut self.report);
+        let line = self.line.as_slice();
+        let taken = match read_line(alloc, line, &mut self.room) {
+            Ok(Line::Entry(entry)) => {
+                pass_line(runs, sums, entry.run, line);
+                count_entry(alloc, config, runs, report, place, &entry)
+            }
+            Ok(Line::Left(left)) => {
+                pass_line(runs, sums, left.run, line);
+                count_left(config, runs, report, place, &left)
+            }
+            Ok(Line::Begin(begin)) => take_begin(alloc, runs, sums, report, place, &begin, line),
+            Ok(Line::End(end)) => {
+                check_end(runs, report, place, &end)?;
+                pass_line(runs, sums, end.run, line);
+                take_end(runs, report, place, &end)
+            }
+            Ok(Line::Hidden(hidden)) => pass_hidden(runs, sums, report, place, &hidden),
             Err(LineFault::NotALine) => return Ok(false),
             Err(LineFault::OutOfMemory) => return Err(Fault::Memory),
         };
@@ -233,14 +251,17 @@ impl<'a, W: Write> Audit<'a, W> {
         Ok(())
     }
 
-    /// Prints what each lane of each run has, and returns the status.
+    /// Prints what each lane of each run has, and which sums were not found, and returns the status.
     fn end(&mut self) -> Result<u8, Fault>
         ensures status { IfOk result (λ status. (found : TheFindings) × (status ≡ status_at found)) }
         ensures fault { IfErr result (λ fault. fault ≡ Output) }
     {
         for run in self.runs.as_slice() {
-            for lane in run.lanes.as_slice() {
-                tell_lane(&mut self.report, run.run, lane)?;
+            tell_run(&mut self.report, run)?;
+        }
+        for kept in self.sums.as_slice() {
+            if !kept.is_found {
+                self.report.sum(SumLine { word: kept.word })?;
             }
         }
         Ok(self.report.findings.status())
@@ -257,11 +278,78 @@ fn clear_place<R: Runtime>(rt: &R) {
     let _ = eprint!(rt; "\u{1b}[K");
 }
 
-/// A file begins.
-fn take_begin(alloc: Global, runs: &mut Runs, begin: &Begin<'_>) -> Result<(), Fault> {
-    match runs.begin(alloc, begin) {
-        Ok(()) => Ok(()),
-        Err(_) => Err(Fault::Memory),
+/// A file begins. Tells if its sum is not that of the lines before it.
+fn take_begin<W: Write>(
+    alloc: Global,
+    runs: &mut Runs,
+    sums: &mut KeptSums<'_>,
+    report: &mut Report<'_, W>,
+    place: Place<'_>,
+    begin: &Begin<'_>,
+    line: &[u8],
+) -> Result<(), Fault> {
+    if runs.begin(alloc, begin).is_err() {
+        return Err(Fault::Memory);
+    }
+    let Some(run) = runs.run(begin.run) else {
+        return Ok(());
+    };
+    let is_right = run.chain.begin(begin.file, begin.sum, line);
+    if let Some(sum) = begin.sum {
+        sums.see(begin.run, begin.file, sum);
+    }
+    sums.see_run(run);
+    tell_sum(report, place, is_right)
+}
+
+/// Tells if a line's sum is not right.
+fn tell_sum<W: Write>(
+    report: &mut Report<'_, W>,
+    place: Place<'_>,
+    is_right: bool,
+) -> Result<(), Fault> {
+    if is_right {
+        return Ok(());
+    }
+    let reason = Reason::WrongSum;
+    report.wrong(WrongLine { place, reason })
+}
+
+/// Adds a line to the chain of its run, if that is known.
+fn pass_line(runs: &mut Runs, sums: &mut KeptSums<'_>, run: u64, line: &[u8]) {
+    if let Some(run) = runs.run(run) {
+        run.chain.pass(line);
+        sums.see_run(run);
+    }
+}
+
+/// Adds a line that is left out to the chain of the run of the line before it. Tells if there is no such run.
+fn pass_hidden<W: Write>(
+    runs: &mut Runs,
+    sums: &mut KeptSums<'_>,
+    report: &mut Report<'_, W>,
+    place: Place<'_>,
+    hidden: &Hidden,
+) -> Result<(), Fault> {
+    let Some(run) = runs.last() else {
+        let reason = Reason::UnknownLane;
+        return report.wrong(WrongLine { place, reason });
+    };
+    run.chain.pass_hidden(hidden.sum);
+    sums.see_run(run);
+    Ok(())
+}
+
+/// Tells if the sum of a line that ends a run is not that of the lines before it.
+fn check_end<W: Write>(
+    runs: &mut Runs,
+    report: &mut Report<'_, W>,
+    place: Place<'_>,
+    end: &End<'_>,
+) -> Result<(), Fault> {
+    match runs.run(end.run) {
+        Some(run) => tell_sum(report, place, run.chain.is_right_end(end.sum)),
+        None => Ok(()),
     }
 }
 
@@ -346,6 +434,19 @@ fn count_left<W: Write>(
         Ok(Some(reason)) => report.wrong(WrongLine { place, reason }),
         Ok(None) => report.left_row(place, left),
         Err(_) => Err(Fault::Memory),
+    }
+}
+
+/// Prints what each lane of a run has, and how many of its lines are left out, if any are.
+fn tell_run<W: Write>(report: &mut Report<'_, W>, run: &Run) -> Result<(), Fault>
+    ensures { IfErr result (λ fault. fault ≡ Output) }
+{
+    for lane in run.lanes.as_slice() {
+        tell_lane(report, run.run, lane)?;
+    }
+    match HiddenLine::of(run) {
+        Some(line) => report.hidden(line),
+        None => Ok(()),
     }
 }
 

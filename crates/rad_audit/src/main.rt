@@ -4,8 +4,10 @@
 
 mod auditing;
 mod cells;
+mod chains;
 mod facts;
 mod faults;
+mod kept_sums;
 mod line_room;
 mod printing;
 mod rows;
@@ -24,6 +26,7 @@ ghost use Rattle.rad_audit.specs.declared.printing.Findings.{Findings as TheFind
 
 use auditing::audit_files;
 use faults::Fault;
+use kept_sums::KeptSums;
 use printing::{Findings, Outputs};
 use rad_console::{read_at_most, read_configuration};
 use rad_realms::Config;
@@ -69,7 +72,7 @@ where
     ensures { IfOk result (λ status. (found : TheFindings) × (status ≡ status_at found)) }
 {
     match read_words(alloc, arguments)? {
-        Asked::Audit(words) => audit_words(rt, alloc, &words),
+        Asked::Audit(words) => audit_words(rt, alloc, words),
         Asked::Text(text) => print_text(rt, &text),
     }
 }
@@ -90,17 +93,23 @@ fn print_text<R: Runtime>(rt: &R, text: &clap::Error) -> Result<u8, Fault>
 }
 
 /// Audits the files that these words name, and returns the status.
-fn audit_words<R: Runtime>(rt: &R, alloc: Global, words: &Words<'_>) -> Result<u8, Fault>
+fn audit_words<R: Runtime>(rt: &R, alloc: Global, words: Words<'_>) -> Result<u8, Fault>
 where
     R::File: Drop,
     ensures { IfOk result (λ status. (found : TheFindings) × (status ≡ status_at found)) }
 {
-    let config = load(rt, alloc, words.config)?;
-    let files = words.files.as_slice();
-    if words.rows {
-        print_rows(rt, alloc, &config, files)
+    let Words {
+        rows,
+        sums,
+        config,
+        files,
+    } = words;
+    let config = load(rt, alloc, config)?;
+    let files = files.as_slice();
+    if rows {
+        print_rows(rt, alloc, &config, files, sums)
     } else {
-        print_audit(rt, alloc, &config, files)
+        print_audit(rt, alloc, &config, files, sums)
     }
 }
 
@@ -110,6 +119,7 @@ fn print_audit<R: Runtime>(
     alloc: Global,
     config: &Config,
     files: &[&str],
+    sums: KeptSums<'_>,
 ) -> Result<u8, Fault>
 where
     R::File: Drop,
@@ -120,7 +130,7 @@ where
         lines: &mut output,
         rows: None,
     };
-    let audited = audit_files(rt, alloc, config, files, outputs);
+    let audited = audit_files(rt, alloc, config, files, sums, outputs);
     flush(&mut output)?;
     audited
 }
@@ -132,6 +142,7 @@ fn print_rows<R: Runtime>(
     alloc: Global,
     config: &Config,
     files: &[&str],
+    sums: KeptSums<'_>,
 ) -> Result<u8, Fault>
 where
     R::File: Drop,
@@ -143,7 +154,7 @@ where
         lines: &mut lines,
         rows: Some(&mut rows),
     };
-    let audited = audit_files(rt, alloc, config, files, outputs);
+    let audited = audit_files(rt, alloc, config, files, sums, outputs);
     flush(&mut rows)?;
     flush(&mut lines)?;
     audited

@@ -6,7 +6,7 @@ ghost use Rattle.rad_audit.specs.Statuses.{is_missing as the_is_missing};
 
 use crate::faults::Fault;
 use crate::rows::Row;
-use crate::runs::Lane;
+use crate::runs::{Lane, Run};
 use crate::shown::Shown;
 use rad_ledger::{Entry, Gap, Left, Reason, Verdict, lane_verdict};
 use std::fmt;
@@ -94,6 +94,22 @@ pub struct BackLine<'a> {
 /// Steps back in time.
 #[derive(Clone, Copy)]
 pub struct BackSteps(pub u64);
+
+/// The line of a run of which lines are left out.
+#[derive(Clone, Copy)]
+pub struct HiddenLine {
+    /// The name of the run.
+    pub run: u64,
+    /// How many there are.
+    pub count: u64,
+}
+
+/// The line of a sum that somebody kept and that was not found.
+#[derive(Clone, Copy)]
+pub struct SumLine<'a> {
+    /// The word that names it.
+    pub word: &'a str,
+}
 
 /// What a lane of a run has.
 #[derive(Clone, Copy)]
@@ -212,6 +228,24 @@ impl<'a> BackLine<'a> {
     }
 }
 
+impl HiddenLine {
+    ghost use Rattle.std.specs.Prelude.{◌≡◌, ◌≢◌, MatchOption};
+
+    /// Returns the line of a run, if lines of it are left out.
+    pub fn of(run: &Run) -> Option<HiddenLine>
+        ensures { MatchOption result (run.now.chain.hidden ≡ 0) (λ line. (line.run ≡ run.now.run) × (line.count ≡ run.now.chain.hidden) × (line.count ≢ 0)) }
+    {
+        let count = run.chain.hidden();
+        if count == 0 {
+            return None;
+        }
+        Some(HiddenLine {
+            run: run.run,
+            count,
+        })
+    }
+}
+
 /// Where lines are printed, and rows, if they are.
 #[derive(Drop)]
 pub struct Outputs<'a, W> {
@@ -309,6 +343,23 @@ impl<W: Write> Report<'_, W> {
         ensures findings { self.new.findings ≡ self.old.findings }
         ensures fault { IfErr result (λ fault. fault ≡ Output) }
     {
+        written(writeln!(self.outputs.lines, "{line}"))
+    }
+
+    /// Tells how many lines of a run are left out. That is no fault.
+    pub fn hidden(&mut self, line: HiddenLine) -> Result<(), Fault>
+        ensures findings { self.new.findings ≡ self.old.findings }
+        ensures fault { IfErr result (λ fault. fault ≡ Output) }
+    {
+        written(writeln!(self.outputs.lines, "{line}"))
+    }
+
+    /// Tells of a sum that somebody kept and that was not found.
+    pub fn sum(&mut self, line: SumLine<'_>) -> Result<(), Fault>
+        ensures findings { self.new.findings ≡ record self.old.findings { wrong = true } }
+        ensures fault { IfErr result (λ fault. fault ≡ Output) }
+    {
+        self.findings.wrong = true;
         written(writeln!(self.outputs.lines, "{line}"))
     }
 
@@ -498,5 +549,30 @@ impl fmt::Display for LaneCounts {
         let verdict = self.verdict;
         write!(f, "from {first} entries {entries} ")?;
         write!(f, "not judged {not_judged} {verdict}")
+    }
+}
+
+impl fmt::Display for HiddenLine {
+    ghost use Rattle.std.specs.Prelude.{Some};
+    ghost use Rattle.rad_audit.specs.Printed.{hidden_line};
+
+    ghost output = { λ line. Some (hidden_line line) };
+
+    fn fmt<W: fmt::Write>(&self, f: &mut fmt::Formatter<W>) -> fmt::Result {
+        let HiddenLine { run, count } = *self;
+        write!(f, "run {run:016x} hidden {count}")
+    }
+}
+
+impl fmt::Display for SumLine<'_> {
+    ghost use Rattle.std.specs.Prelude.{Some};
+    ghost use Rattle.rad_audit.specs.Printed.{sum_line};
+
+    ghost output = { λ line. Some (sum_line line) };
+
+    fn fmt<W: fmt::Write>(&self, f: &mut fmt::Formatter<W>) -> fmt::Result {
+        let word = Shown(self.word);
+        let reason = Reason::WrongSum;
+        write!(f, "{word}: {reason}")
     }
 }

@@ -1,5 +1,6 @@
 //! What is known of each run and its lanes.
 
+use crate::chains::RunChain;
 use crate::shown::Word;
 use crate::times::Times;
 use ledger_lines::{Begin, LaneStart};
@@ -29,6 +30,7 @@ pub struct Run {
     /// Its name.
     pub run: u64,
     pub lanes: Vec<Lane>,
+    pub chain: RunChain,
 }
 
 /// The runs, in the order in which the files name them.
@@ -67,7 +69,14 @@ impl Runs {
         self.name(run)?;
         let mut lanes = Vec::with_capacity(alloc, begin.lanes.len())?;
         match add_lanes(alloc, &mut lanes, begin) {
-            Ok(()) => push(&mut self.runs, Run { run, lanes }),
+            Ok(()) => push(
+                &mut self.runs,
+                Run {
+                    run,
+                    lanes,
+                    chain: RunChain::new(),
+                },
+            ),
             Err(refused) => Err(refused),
         }
     }
@@ -88,11 +97,20 @@ impl Runs {
         self.places.get(&run).copied()
     }
 
+    /// Returns the run of this name, if there is one.
+    pub fn run(&mut self, run: u64) -> Option<&mut Run> {
+        self.last = self.place_of(run)?;
+        self.runs.get_mut(self.last)
+    }
+
+    /// Returns the run that was last asked for, if there is one.
+    pub fn last(&mut self) -> Option<&mut Run> {
+        self.runs.get_mut(self.last)
+    }
+
     /// Returns the lane of this number, if there is such a run and it has one.
     pub fn lane(&mut self, run: u64, number: u16) -> Option<&mut Lane> {
-        let place = self.place_of(run)?;
-        self.last = place;
-        let run = self.runs.get_mut(place)?;
+        let run = self.run(run)?;
         run.lanes.iter_mut().find(|lane| lane.number == number)
     }
 }

@@ -1,6 +1,7 @@
 //! The words that the program is called with.
 
 use crate::faults::Fault;
+use crate::kept_sums::{KeptSum, KeptSums};
 use clap::error::ErrorKind;
 use clap::{Arg, ArgAction, ArgMatches, Command};
 use std::alloc::{AllocError, Global};
@@ -22,6 +23,8 @@ pub enum Asked<'a> {
 pub struct Words<'a> {
     /// Whether a row is printed for each record.
     pub rows: bool,
+    /// The sums that somebody kept.
+    pub sums: KeptSums<'a>,
     /// The configuration's.
     pub config: &'a str,
     /// The ledgers', in the order in which they are read.
@@ -59,14 +62,30 @@ fn words_of<'a>(alloc: Global, matches: &ArgMatches<'a>) -> Result<Words<'a>, Fa
         return Err(Fault::Usage);
     };
     let rows = matches.get_flag("rows");
+    let sums = sums_of(alloc, matches.get_strs("sum").unwrap_or(&[]))?;
     match files.to_vec(alloc) {
         Ok(files) => Ok(Words {
             rows,
+            sums,
             config,
             files,
         }),
         Err(_) => Err(Fault::Memory),
     }
+}
+
+/// Returns the sums that these words name.
+fn sums_of<'a>(alloc: Global, words: &[&'a str]) -> Result<KeptSums<'a>, Fault> {
+    let mut sums = KeptSums::new(alloc);
+    for word in words {
+        let Some(sum) = KeptSum::read(word) else {
+            return Err(Fault::Usage);
+        };
+        if sums.add(sum).is_err() {
+            return Err(Fault::Memory);
+        }
+    }
+    Ok(sums)
 }
 
 /// Returns the words that the program takes.
@@ -75,6 +94,7 @@ fn command<'a>(alloc: Global) -> Result<Command<'a>, AllocError> {
         .version(VERSION)
         .about("Audits ledgers of rad_proxy. rad_audit(1) says what it prints.")
         .arg(rows_word(alloc))?;
+    let command = command.arg(sum_word(alloc))?;
     let command = command.arg(config_word(alloc))?;
     command.arg(file_words(alloc))
 }
@@ -85,6 +105,15 @@ fn rows_word<'a>(alloc: Global) -> Arg<'a> {
         .long("rows")
         .help("Print a row for each entry that is right, and all else on standard error")
         .action(ArgAction::SetTrue)
+}
+
+/// Returns the word `--sum`, which may stand several times.
+fn sum_word<'a>(alloc: Global) -> Arg<'a> {
+    Arg::new(alloc, "sum")
+        .long("sum")
+        .value_name("RUN:FILE:SUM")
+        .help("Look whether the run has this sum in this file")
+        .action(ArgAction::Append)
 }
 
 /// Returns the word CONFIG, which is required.
