@@ -15,6 +15,7 @@
 
 mod counts;
 mod entry_buffer;
+mod file_before;
 mod filling;
 mod inlet;
 mod lines;

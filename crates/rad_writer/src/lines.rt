@@ -9,9 +9,9 @@ use crate::counts::RunCounts;
 use crate::entry_buffer::Parcel;
 use crate::parcel::{ParcelHead, UNKNOWN_SENDINGS, UNKNOWN_TIME};
 use crate::run_names::RunNames;
-use ledger_files::UtcTime;
+use ledger_files::{FoundFile, SUM_OCTETS, UtcTime};
 use ledger_lines::{
-    Begin, End, LaneCount, LaneStart, write_begin, write_end, write_entry, write_left,
+    Begin, End, FileBefore, LaneCount, LaneStart, write_begin, write_end, write_entry, write_left,
 };
 use rad_desk::{LeftState, status_of, user_of};
 use rad_lane::session_of;
@@ -220,8 +220,19 @@ fn told_in(sent: &[u8]) -> Told<'_> {
     }
 }
 
-/// Writes the line that begins a file of this number behind what these octets are. The next entry of each lane has the
-/// serial that is in `next` at its place.
+/// What the line that begins a file says besides its run and its lanes.
+#[derive(Clone, Copy)]
+pub(crate) struct FileStart<'a> {
+    /// The number of the file.
+    pub(crate) file: u64,
+    /// The sum of the lines before it.
+    pub(crate) sum: [u8; SUM_OCTETS],
+    /// The file of another run that was written last, if there is one and this is the first file.
+    pub(crate) before: Option<&'a FoundFile>,
+}
+
+/// Writes the line that begins a file behind what these octets are. The next entry of each lane has the serial that is in
+/// `next` at its place.
 ///
 /// # Errors
 ///
@@ -230,7 +241,7 @@ pub(crate) fn begin_line(
     alloc: Global,
     names: &RunNames,
     time: u64,
-    file: u64,
+    start: FileStart<'_>,
     next: &[u64],
     out: Vec<u8>,
 ) -> Result<Vec<u8>, AllocError>
@@ -238,14 +249,28 @@ pub(crate) fn begin_line(
 {
     let time = time_text(alloc, time)?;
     let lanes = lane_starts(alloc, names, next)?;
+    let sum = start.sum;
     let begin = Begin {
         run: names.run,
         time: time.as_str(),
         version: VERSION,
-        file,
+        file: start.file,
+        sum: Some(sum),
+        before: file_before(start.before),
         lanes,
     };
     write_begin(alloc, &begin, out)
+}
+
+/// Returns a file that was found, as a line names it.
+fn file_before(found: Option<&FoundFile>) -> Option<FileBefore<'_>> {
+    let found = found?;
+    let sha256 = found.sha256;
+    Some(FileBefore {
+        name: found.name.as_str(),
+        octets: found.octets,
+        sha256,
+    })
 }
 
 /// Returns the run's lanes, each with the serial of its next entry.
@@ -307,7 +332,7 @@ fn serial_at(next: &[u64], lane: usize) -> u64
     }
 }
 
-/// Writes the line that ends the run behind what these octets are.
+/// Writes the line that ends the run behind what these octets are. This is the sum of the lines before it.
 ///
 /// # Errors
 ///
@@ -316,6 +341,7 @@ pub(crate) fn end_line(
     alloc: Global,
     names: &RunNames,
     time: u64,
+    sum: [u8; SUM_OCTETS],
     counts: &RunCounts,
     out: Vec<u8>,
 ) -> Result<Vec<u8>, AllocError>
@@ -326,6 +352,7 @@ pub(crate) fn end_line(
     let end = End {
         run: names.run,
         time: time.as_str(),
+        sum: Some(sum),
         lanes,
     };
     write_end(alloc, &end, out)
