@@ -1,7 +1,7 @@
 #!/usr/bin/env python3
 """What `rad_audit` answers, written a second time: from docs/formats.md, by Python's datetime, json, hashlib and tomllib.
 
-usage: audit_model.py CONFIG FILE..    audits as the program does
+usage: audit_model.py [--sum RUN:FILE:SUM].. CONFIG FILE..    audits as the program does
 
 Of a configuration it looks at the addresses, names and secrets alone.
 """
@@ -17,7 +17,7 @@ MOST_CONFIG, MOST_LINE = 1_048_576, 65_536
 REQUEST, RESPONSE, PROXY_STATE, MESSAGE_AUTHENTICATOR = 4, 5, 33, 80
 USER_NAME, STATUS_TYPE, SESSION_ID = 1, 40, 44
 MOST_RANGES = 4096
-USAGE = "usage: rad_audit [--rows] CONFIG FILE.."
+USAGE = "usage: rad_audit [--rows] [--sum RUN:FILE:SUM].. CONFIG FILE.."
 OCTETS, ADDRESS = re.compile(r"([0-9a-fA-F]{2})*"), re.compile(r"(0|[1-9][0-9]{0,2})(\.(0|[1-9][0-9]{0,2})){3}")
 TIME = re.compile(r"[0-9]{4}-[0-9]{2}-[0-9]{2}T[0-9]{2}:[0-9]{2}:[0-9]{2}\.[0-9]{3}Z")
 HEAD = {"type", "run", "time"}
@@ -27,7 +27,8 @@ OPTIONAL = WORDS | {f"{word}_octets" for word in WORDS} | {"status"}
 LEFT = HEAD | {"home", "lane", "record", "client", "port", "identifier", "authenticator", "state", "request"}
 STATES = {"queued", "outstanding", "untaken"}
 LIMITS = {"lane": 2**16, "serial": 2**63, "record": 2**64, "port": 2**16, "identifier": 2**8, "status": 2**32, "file": 2**64, "entries": 2**64,
-          "accepted": 2**64, "left": 2**64, "sendings": 2**32}
+          "accepted": 2**64, "left": 2**64, "sendings": 2**32, "octets": 2**64}
+SHA_256 = re.compile("[0-9a-fA-F]{64}")
 
 
 class Ends(Exception):
@@ -105,6 +106,21 @@ def read_request(keys, least, more, line):
     need(re.fullmatch("[0-9a-fA-F]{32}", line["authenticator"]))
 
 
+def read_sum(line, key):
+    need(type(line[key]) is str and SHA_256.fullmatch(line[key]))
+
+
+def read_sums(line):
+    """The sum of a line, and the file of another run that it names, if it has them."""
+    if "sum" in line:
+        read_sum(line, "sum")
+    if "before" in line:
+        before = line["before"]
+        need(type(before) is dict and set(before) == {"name", "octets", "sha256"})
+        are_right({"name", "octets"}, before)
+        read_sum(before, "sha256")
+
+
 def read_line(octets):
     """The members of a line."""
     need(len(octets) <= MOST_LINE)
@@ -112,17 +128,24 @@ def read_line(octets):
         line = json.loads(octets.decode("utf-8"), object_pairs_hook=members, parse_int=whole, parse_float=no_number, parse_constant=no_number)
     except (ValueError, RecursionError):
         raise NoLine from None
-    need(type(line) is dict and HEAD <= set(line))
+    need(type(line) is dict)
+    if line.get("type") == "hidden":
+        need(set(line) == {"type", "sum"})
+        read_sum(line, "sum")
+        return line
+    need(HEAD <= set(line))
     are_right(HEAD, line)
     need(re.fullmatch("[0-9a-fA-F]{16}", line["run"]) and is_time(line["time"]))
     keys, kind = set(line), line["type"]
     need(kind in ("begin", "entry", "left", "end"))
     if kind == "begin":
-        need(keys == HEAD | {"version", "file", "lanes"})
+        need(keys - {"sum", "before"} == HEAD | {"version", "file", "lanes"})
         are_right({"version", "file"}, line)
+        read_sums(line)
         read_lanes(line, {"lane", "home", "serial"})
     elif kind == "end":
-        need(keys == HEAD | {"lanes"})
+        need(keys - {"sum"} == HEAD | {"lanes"})
+        read_sums(line)
         read_lanes(line, {"lane", "entries"}, {"lane", "entries", "accepted", "left"})
     elif kind == "entry":
         read_request(keys, ENTRY, set(), line)
@@ -209,10 +232,31 @@ class Numbers:
             self.ranges, self.exact_from = self.ranges - 1, max(self.exact_from, first)
 
 
+class Chain:
+    """The chain of a run: the sum of its lines, from the last `begin` on. There is none if that has no sum."""
+
+    def __init__(self):
+        self.sum, self.next, self.hidden = bytes(32), 0, 0
+
+    def begin(self, file, told):
+        """Whether the sum of a `begin` is right; the chain goes on from it."""
+        if told is None:
+            is_right = self.next == 0 or self.sum is None
+        else:
+            is_right = file > self.next or file == self.next and self.sum in (None, told)
+        self.sum, self.next = told, min(file + 1, 2**64 - 1)
+        return is_right
+
+    def add(self, digest):
+        if self.sum is not None:
+            self.sum = hashlib.sha256(self.sum + digest).digest()
+
+
 class Audit:
     """What is known of the runs, and what was printed."""
 
-    def __init__(self, config):
+    def __init__(self, config, sums=()):
+        self.chains, self.sums, self.found, self.last = {}, sums, set(), None
         self.homes = {home["name"]: home["secret"].encode() for home in config["home"]}
         self.clients = {client["address"]: client["secret"].encode() for client in config["client"]}
         self.runs, self.printed, self.wrong, self.gap = {}, [], False, False
@@ -305,7 +349,36 @@ class Audit:
             if lane["next"] < lane["end"]:
                 self.lacks(place, named(run, lane), lane["next"], lane["end"] - 1)
 
-    def take(self, place, line):
+    def see(self, run):
+        """Looks whether the sum that a run has now is one that was kept."""
+        chain = self.chains[run]
+        self.found |= {it for it in self.sums if chain.sum is not None and it[1:] == (run, max(chain.next - 1, 0), chain.sum)}
+
+    def chain(self, place, line, octets):
+        """Adds a line to the chain of its run, and judges its sum."""
+        kind, told = line["type"], bytes.fromhex(line["sum"]) if "sum" in line else None
+        run = self.last if kind == "hidden" else line["run"].lower()
+        if kind == "begin":
+            self.chains.setdefault(run, Chain())
+        chain = self.chains.get(run)
+        if chain is None:
+            return self.is_wrong(place, "UnknownLane") if kind == "hidden" else None
+        self.last = run
+        is_right = chain.begin(line["file"], told) if kind == "begin" else kind != "end" or chain.sum is None or chain.sum == told
+        self.see(run)
+        chain.add(told if kind == "hidden" else hashlib.sha256(octets + b"\n").digest())
+        chain.hidden += kind == "hidden"
+        self.see(run)
+        if not is_right:
+            self.is_wrong(place, "WrongSum")
+
+    def take(self, place, line, octets):
+        if line["type"] in ("begin", "end", "hidden"):
+            self.chain(place, line, octets)
+        else:
+            self.chain(place, {"type": line["type"], "run": line["run"]}, octets)
+        if line["type"] == "hidden":
+            return
         if line["type"] == "entry":
             self.take_entry(place, line)
         elif line["type"] == "left":
@@ -324,7 +397,7 @@ class Audit:
         for number, (line, behind) in enumerate(zip(lines, followers), 1):
             place = f"{shown(file)}:{number}"
             try:
-                self.take(place, read_line(line))
+                self.take(place, read_line(line), line)
             except NoLine:
                 if len(line) <= MOST_LINE and len(line) < len(behind) and behind.startswith(line):
                     self.printed.append(f"{place}: torn")
@@ -351,6 +424,11 @@ class Audit:
                     self.printed.append(f"{named(run, lane)} more than {MOST_RANGES} ranges")
                 if lane["back"]:
                     self.printed.append(f"{named(run, lane)} steps back in time {lane['back']}")
+            if self.chains[run].hidden:
+                self.printed.append(f"run {run} hidden {self.chains[run].hidden}")
+        for kept in self.sums:
+            if kept not in self.found:
+                self.is_wrong(kept[0], "WrongSum")
         return 5 if self.wrong else 3 if self.gap else 0
 
 
@@ -389,14 +467,29 @@ def configured(path):
     return config
 
 
+def kept_sums(words):
+    """The sums that words name, each with its word; and the other words."""
+    sums, words = [], [*words]
+    while "--sum" in words[:-1]:
+        at = words.index("--sum")
+        word = words[at + 1]
+        found = re.fullmatch("([0-9a-fA-F]{16}):([0-9]+):([0-9a-fA-F]{64})", word)
+        if found is None or int(found[2]) >= 2**64:
+            return None, words
+        sums.append((word, found[1].lower(), int(found[2]), bytes.fromhex(found[3])))
+        del words[at : at + 2]
+    return sums, words
+
+
 def main(words):
     """Audits, and gives the status."""
-    if len(words) < 2 or any(word.startswith("-") for word in words):
+    sums, words = kept_sums(words)
+    if sums is None or len(words) < 2 or any(word.startswith("-") for word in words):
         print(USAGE, file=sys.stderr)
         return 1
     audit, fault = None, None
     try:
-        audit = Audit(configured(words[0]))
+        audit = Audit(configured(words[0]), sums)
         for path in words[1:]:
             audit.read(path, read_file(path))
         status = audit.end()

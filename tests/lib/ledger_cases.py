@@ -2,7 +2,7 @@
 import json
 
 from tests.lib import ledgers, packets
-from tests.lib.ledgers import Lane, Run, text
+from tests.lib.ledgers import Lane, Run, chained, hidden, sum_of, text
 from tests.lib.packets import ACCT_SESSION_ID, CLASS, MESSAGE_AUTHENTICATOR, attribute, mark
 
 NAME = 0xA0B1C2D3E4F50617
@@ -472,3 +472,124 @@ def accounts():
     run.lanes[0].record, run.lanes[0].left = 8193, 8193
     yield "each-number-but-merged-on-the-way", {"ledger": text([*every_second, *rest, run.end_of_all()])}, [
         counted(0, "h1", 0, 0, "unaccounted"), fates(8193, 0, 8193), more], 3
+
+
+def with_sums(name=NAME):
+    """The lines of a run of three entries, with its sums."""
+    run = Run(name, [Lane(0, "h1", HOME)])
+    return chained([*lines_of(run, 3, False), run.end_of_all()])
+
+
+def in_files(*counts):
+    """The files of a run with so many entries in each, with its sums."""
+    run, lines, files = one(), [], []
+    for count in counts:
+        lines.append([run.begin(), *(run.entry() for _ in range(count))])
+    lines[-1].append(run.end_of_all())
+    all_lines = chained([line for file in lines for line in file])
+    for file in lines:
+        files.append(all_lines[: len(file)])
+        del all_lines[: len(file)]
+    return files
+
+
+def kept(run, file, its):
+    """The word of a sum that somebody kept."""
+    return f"{run:016x}:{file}:{its.hex()}"
+
+
+def wrong(place):
+    return f"{place}: WrongSum"
+
+
+def chains():
+    """Runs with sums, as above; behind these the words that name sums that somebody kept."""
+    lines, whole = with_sums(), [counted(0, "h1", 0, 3, "whole"), fates(3, 3, 0)]
+    changed_at = lambda at, **keys: {"ledger": text([*lines[:at], changed(lines[at], **keys), *lines[at + 1 :]])}
+    yield "sums", {"ledger": text(lines)}, whole, 0
+    yield "sums-in-capitals", {"ledger": text(chained([changed(line, run=line["run"].upper()) for line in lines]))}, whole, 0
+    yield "a-begin-of-another-sum", {"ledger": text(chained(lines, bytes(31) + b"\1"))}, [wrong("ledger:1"), *whole], 5
+    yield "a-begin-of-another-sum-alone", changed_at(0, sum="1" * 64), [wrong("ledger:1"), wrong("ledger:5"), *whole], 5
+    yield "a-begin-without-its-sum", changed_at(0, sum=None), whole, 0
+    yield "an-end-of-another-sum", changed_at(4, sum="1" * 64), [wrong("ledger:5"), *whole], 5
+    yield "an-end-without-its-sum", changed_at(4, sum=None), [wrong("ledger:5"), *whole], 5
+    for name, value in {"a-short-sum": "1" * 62, "a-sum-that-is-no-digits": "g" * 64, "a-sum-that-is-a-number": 1}.items():
+        yield name, changed_at(4, sum=value), ["ledger:5: NotEntry", counted(0, "h1", 0, 3, "open")], 5
+    for key, value in {"client": "192.0.2.11", "port": 7, "time": "2026-01-31T00:00:00.751Z"}.items():
+        yield f"another-{key}", changed_at(2, **{key: value}), [wrong("ledger:5"), *whole], 5
+    other = with_sums(NAME + 1)
+    mixed = [*lines[:2], changed(other[2], run=lines[2]["run"]), *lines[3:], *other[:2], changed(lines[2], run=other[2]["run"]), *other[3:]]
+    its = [counted(0, "h1", 0, 3, "whole", run=NAME + 1), fates(3, 3, 0).replace(f"{NAME:016x}", f"{NAME + 1:016x}")]
+    mixed[2], mixed[7] = changed(mixed[2], time="2026-01-31T00:00:00.751Z"), mixed[7]
+    yield "entries-exchanged-between-two-runs", {"ledger": text(mixed)}, [wrong("ledger:5"), *whole, *its], 5
+    cut = [*lines[:3], changed(lines[4], lanes=[{"lane": 0, "entries": 2, "accepted": 2, "left": 0}])]
+    rest = [counted(0, "h1", 0, 2, "whole"), fates(2, 2, 0)]
+    yield "a-tail-cut-and-the-end-corrected", {"ledger": text(cut)}, [wrong("ledger:4"), *rest], 5
+    yield "all-of-it-written-again", {"ledger": text(chained(cut))}, rest, 0
+    word = kept(NAME, 0, sum_of(lines))
+    yield "all-of-it-written-again-and-a-sum-that-was-kept", {"ledger": text(chained(cut))}, [*rest, wrong(word)], 5, ["--sum", word]
+
+    gap = f"ledger:4: run {NAME:016x} lane 0 h1 gap 1 to 1"
+    left_out = [gap, counted(0, "h1", 0, 2, "gap 1 to 1"), fates(3, 2, 0), f"run {NAME:016x} hidden 1"]
+    hides = lambda line: {"ledger": text([*lines[:2], line, *lines[3:]])}
+    yield "a-line-left-out", hides(hidden(lines[2])), left_out, 3
+    yield "a-line-left-out-in-capitals", hides({"sum": hidden(lines[2])["sum"].upper(), "type": "hidden"}), left_out, 3
+    yield "another-line-left-out", hides(hidden(lines[1])), [gap, wrong("ledger:5"), *left_out[1:]], 5
+    yield "a-line-taken-out", {"ledger": text([*lines[:2], *lines[3:]])}, [
+        gap.replace(":4:", ":3:"), wrong("ledger:4"), *left_out[1:3]], 5
+    yield "a-line-left-out-of-no-run", {"ledger": text([hidden(lines[2]), *lines])}, ["ledger:1: UnknownLane", *whole], 5
+    for name, line in {"of-a-run": {**hidden(lines[2]), "run": lines[2]["run"]}, "without-a-sum": {"type": "hidden"},
+                       "of-a-short-sum": {"type": "hidden", "sum": "1" * 62}}.items():
+        yield f"a-line-left-out-{name}", hides(line), ["ledger:3: NotEntry", gap, wrong("ledger:5"), *left_out[1:3]], 5
+    run = two()
+    its = chained([run.begin(), *(run.entry(place) for place in (0, 1, 0, 1, 1)), run.end()])
+    handed = [hidden(line) if line.get("home") == "h2" else line for line in its]
+    yield "the-lines-of-a-home-server-left-out", {"ledger": text(handed)}, [
+        f"ledger:7: run {NAME:016x} lane 1 h2 gap 0 to 2", counted(0, "h1", 0, 2, "whole"), counted(1, "h2", 0, 0, "gap 0 to 2"),
+        f"run {NAME:016x} hidden 3"], 3
+    yield "all-left-out", {"ledger": text([lines[0], *map(hidden, lines[1:])])}, [counted(0, "h1", 0, 0, "open"), f"run {NAME:016x} hidden 4"], 0
+
+    a, b, c = in_files(2, 1, 2)
+    whole = [counted(0, "h1", 0, 5, "whole"), fates(5, 5, 0)]
+    yield "three-files", {"a": text(a), "b": text(b), "c": text(c)}, whole, 0
+    yield "three-files-in-one", {"ledger": text([*a, *b, *c])}, whole, 0
+    yield "a-line-of-the-first-file-edited", {"a": text([a[0], changed(a[1], port=7), a[2]]), "b": text(b), "c": text(c)}, [wrong("b:1"), *whole], 5
+    yield "the-second-file-without-sums", {"a": text(a), "b": text([changed(b[0], sum=None), b[1]]), "c": text(c)}, [wrong("b:1"), *whole], 5
+    bare = [changed(line, sum=None) for line in (a[0], b[0], c[0], c[3])]
+    yield "no-sums-in-any-file", {"a": text([bare[0], *a[1:]]), "b": text([bare[1], *b[1:]]), "c": text([bare[2], *c[1:3], bare[3]])}, whole, 0
+    yield "sums-from-the-second-file-on", {"a": text([bare[0], *a[1:]]), "b": text(b), "c": text(c)}, whole, 0
+    missing = f"c:2: run {NAME:016x} lane 0 h1 gap 2 to 2"
+    yield "a-file-missing", {"a": text(a), "c": text(c)}, [missing, counted(0, "h1", 0, 4, "gap 2 to 2"), fates(5, 4, 0)], 3
+    yield "from-the-second-file-on", {"b": text(b), "c": text(c)}, [counted(0, "h1", 2, 3, "unaccounted"), fates(5, 3, 0)], 3
+    yield "the-first-file-twice", {"a": text(a), "b": text(a), "c": text(b), "d": text(c)}, [
+        wrong("b:1"), "b:2: SerialNotAbove", "b:3: SerialNotAbove", *whole], 5
+    yield "files-in-another-order", {"a": text(b), "b": text(a), "c": text(c)}, [
+        wrong("b:1"), "b:2: SerialNotAbove", "b:3: SerialNotAbove", counted(0, "h1", 2, 3, "unaccounted"), fates(5, 3, 0)], 5
+    yield "a-begin-of-a-file-put-in", {"a": text(a), "b": text([b[0], b[1], changed(b[0], sum="1" * 64)]), "c": text(c)}, [wrong("b:3"), wrong("c:1"), *whole], 5
+    cut = text(b[1:2])[:99]
+    yield "torn-and-written-again-with-sums", {"a": text(a) + cut, "b": text([b[0], cut, *b[1:]]), "c": text(c)}, ["a:4: torn", "b:2: torn", *whole], 0
+
+    before = {"name": "2026-01-30-0123456789abcdef-000003.jsonl", "octets": 7, "sha256": "ab" * 32}
+    named = lambda its: {"ledger": text(chained([changed(lines[0], before=its), *lines[1:]]))}
+    whole = [counted(0, "h1", 0, 3, "whole"), fates(3, 3, 0)]
+    yield "a-file-of-before", named(before), whole, 0
+    for name, its in {"without-its-name": changed(before, name=None), "of-a-short-sum": changed(before, sha256="ab"), "of-no-octets": changed(before, octets=-1),
+                      "with-a-key-more": {**before, "run": "x"}, "that-is-a-text": "x"}.items():
+        yield f"a-file-of-before-{name}", named(its), [
+            "ledger:1: NotEntry", *(f"ledger:{place}: UnknownLane" for place in (2, 3, 4, 5))], 5
+
+    places = {"before-all": (0, []), "behind-its-first-line": (0, a[:1]), "within-a-file": (0, a[:2]), "behind-a-file": (0, a), "before-a-file": (1, a),
+              "within-another-file": (1, [*a, *b[:1]]), "behind-all": (2, [*a, *b, *c])}
+    whole = [counted(0, "h1", 0, 5, "whole"), fates(5, 5, 0)]
+    files = {"a": text(a), "b": text(b), "c": text(c)}
+    words = [kept(NAME, file, sum_of(its)) for file, its in places.values()]
+    for name, word in zip(places, words):
+        yield f"a-sum-{name}", files, whole, 0, ["--sum", word]
+    yield "all-these-sums", files, whole, 0, [it for word in words for it in ("--sum", word)]
+    strange = {"of-another-file": kept(NAME, 1, bytes(32)), "of-a-file-that-is-not-there": kept(NAME, 3, sum_of([*a, *b, *c])),
+               "of-a-run-that-is-not-there": kept(NAME + 1, 0, bytes(32)), "of-no-place": kept(NAME, 0, b"\1" * 32), "of-the-file-before": kept(NAME, 0, sum_of([*a, *b]))}
+    for name, word in strange.items():
+        yield f"a-sum-{name}", files, [*whole, wrong(word)], 5, ["--sum", word]
+    both = ["--sum", words[0], "--sum", strange["of-no-place"], "--sum", strange["of-another-file"]]
+    yield "sums-that-fit-and-that-do-not", files, [*whole, wrong(both[3]), wrong(both[5])], 5, both
+    yield "a-sum-of-a-run-without-sums", {"ledger": text(lines_of(one(), 2))}, [counted(0, "h1", 0, 2, "whole"), wrong(words[0])], 5, ["--sum", words[0]]
