@@ -166,7 +166,7 @@ def a_disk_that_takes_all_but_the_end_is_told(trial):
     writes(trial, 100)
     with failing.on():
         end_of(trial)
-    hope("what is told", [line for line in trial.log.read_text().splitlines() if "ledger-fault" not in line], ["level=error event=ledger-left count=0"])
+    hope("what is told", [line for line in trial.log_lines() if "ledger-fault" not in line], ["level=error event=ledger-left count=0"])
     hope("verdict", trial.verdict(), "open")
 
 
@@ -176,7 +176,7 @@ def a_slow_disk_has_ten_seconds(trial):
     hope("acknowledged", trial.ask(300), 300)
     end_of(trial)
     trial.is_all_there()
-    hope("what is told", trial.log.read_text(), "")
+    hope("what is told", trial.log_lines(), [])
 
 
 def a_clock_that_stays_away_leaves_all_in_the_ledger(trial):

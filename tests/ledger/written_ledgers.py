@@ -8,6 +8,7 @@ slow is so by slow_files.c, wrong_clock.c sets the time of day, and failing_disk
 `N passed, M failed`.
 """
 import contextlib
+import hashlib
 import json
 import os
 import pathlib
@@ -27,9 +28,12 @@ from datetime import UTC, datetime, timedelta
 from tests.lib import (ACCT_SESSION_ID, A_CLASS, CLASS, HERE, HOME_SECRET, NAS_SECRET, START, WORDS, Lane, LeftOut, Proxy, Run, answer,
                        attribute, audit_model, bound, built, configuration, environment, free_port, hope, mark, request, text, try_named,
                        until, user_name, worded)
+from tests.lib.ledgers import chained
 
 PATIENCE = 60
 NAME = re.compile("([0-9]{4}-[0-9]{2}-[0-9]{2})-([0-9a-f]{16})-([0-9]{6})[.]jsonl")
+SUM = re.compile('"sum":"[0-9a-f]{64}"')
+TOLD = re.compile("level=info event=ledger-file run=([0-9a-f]{16}) file=([0-9]+) entries=([0-9]+) sum=([0-9a-f]{64})")
 TIME = re.compile(r'"time":"(\d{4}-\d\d-\d\dT\d\d:\d\d:\d\d[.]\d{3})Z"')
 SECOND_SECRET = b"home2-secret"
 # The run that lines have here until it is known how the program named its own.
@@ -137,6 +141,27 @@ class Trial(Proxy):
     def entries(self, files=None):
         return [line for line in self.ledger_lines(files) if line["type"] == "entry"]
 
+    def sums(self, files=None):
+        """The sum behind all lines of the run. Each line that begins a file or ends the run has the one before it."""
+        before = bytes(32)
+        for file in files or self.files():
+            for line in file.read_bytes().split(b"\n")[:-1]:
+                told = read_line(file, line)
+                if told["type"] in ("begin", "end"):
+                    hope("a sum", told["sum"], before.hex())
+                before = hashlib.sha256(before + hashlib.sha256(line + b"\n").digest()).digest()
+        return before.hex()
+
+    def told_sums(self):
+        """What is logged of the sums: file, entries and sum of each."""
+        found = [TOLD.fullmatch(line).groups() for line in self.events("ledger-file")]
+        hope("the run", {run for run, *_ in found}, {self.ledger_lines()[0]["run"]})
+        return [(int(file), int(entries), its) for _, file, entries, its in found]
+
+    def log_lines(self):
+        """The lines of the log, but for those of sums."""
+        return [line for line in self.log.read_text().splitlines() if "event=ledger-file" not in line]
+
     def verdict(self, files=None):
         """What the auditor says of the one lane, and its findings before."""
         audit = audit_model.Audit(tomllib.loads(self.file.read_text()))
@@ -206,7 +231,7 @@ def read_line(file, line):
         raise AssertionError(f"{file.name} has a line that is no JSON: {line[:60]!r}") from fault
 
 
-REASONS = {"NotEntry", "NoPacket", "WrongSent", "WrongReply", "WrongResponse", "SerialNotAbove", "UnknownLane"}
+REASONS = {"NotEntry", "NoPacket", "WrongSent", "WrongReply", "WrongResponse", "SerialNotAbove", "UnknownLane", "RecordTwice", "WrongWords", "WrongSum"}
 
 
 def writes_what_was_acknowledged(trial):
@@ -223,11 +248,69 @@ def writes_what_was_acknowledged(trial):
     hope("its date", date, first["time"][:10])
     hope("the file", (int(number), file.stat().st_mode & 0o7777), (0, 0o640))
     hope("the first line", (first["run"], first["file"], first["lanes"]), (run, 0, [{"lane": 0, "home": "h1", "serial": 0}]))
+    hope("the file before", "before" in first, False)
     hope("the last line", (last["type"], last["lanes"]), ("end", [{"lane": 0, "entries": 2000, "accepted": 2000, "left": 0}]))
     entry = trial.entries()[0]
     hope("its words", (entry["realm"], entry["session"], entry["status"], entry["user"], entry["client"]), ("example.org", "S1", 1, "bob@example.org", HERE))
     hope("no secret", any(secret in file.read_bytes() for secret in (NAS_SECRET, HOME_SECRET)), False)
-    hope("what it tells", trial.log.read_text(), "")
+    hope("sums", trial.told_sums(), [(0, 0, "0" * 64), (0, 2000, trial.sums())])
+    hope("what it tells", trial.log_lines(), [])
+
+
+def names_the_file_of_another_run_before(trial):
+    """The first line of a run has the name, the octets and the SHA-256 of the file of another run that was written last; the first line of
+    a further file has none. What is no file of a ledger is passed over, and so is a file that can't be read."""
+    clock, names = Steered(trial), []
+    trial.ask(5)
+    clock.set(1)
+    until("the second file", lambda: len(trial.files()) == 2)
+    trial.ask(5)
+    trial.ends()
+    written = {file: file.read_bytes() for file in trial.files()}
+    for name in ("notes.jsonl", "2026-01-31-0123456789abcdeF-000000.jsonl", "2026-01-31-0123456789abcdef-00000.jsonl", "2026-01-31-0123456789abcdef-000000.jsonl.gz"):
+        (trial.folder / name).write_text("x")
+    (trial.folder / os.fsdecode(b"\xff-0123456789abcdef-000000.jsonl")).write_text("x")
+    (trial.folder / "2026-01-31-0123456789abcdef-000007.jsonl").mkdir()
+    (trial.folder / "2026-01-31-0123456789abcdef-000008.jsonl").symlink_to("notes.jsonl")
+    for age, (file, octets) in enumerate(written.items()):
+        names.append({"name": file.name, "octets": len(octets), "sha256": hashlib.sha256(octets).hexdigest()})
+        os.utime(file, (time.time() - 100 + age, time.time() - 100 + age))
+    for wanted in (names[1], None):
+        before = set(trial.folder.iterdir())
+        trial.begin()
+        trial.ends()
+        (file,) = set(trial.folder.iterdir()) - before
+        first = json.loads(file.read_text().splitlines()[0])
+        if wanted is not None:
+            hope("the file before", first["before"], wanted)
+            hope("none of further files", ["before" in json.loads(octets.splitlines()[0]) for octets in written.values()], [False, False])
+            file.chmod(0)
+        elif os.getuid() != 0:
+            hope("a file that can't be read", "before" in first, False)
+
+
+def tells_the_sum_each_hour(trial):
+    """The sum is logged with each file, each hour, and at the end."""
+    moved = trial.room / "moved"
+    moved.write_text("0")
+    clock = Steered(trial, CLOCK_MOVED=str(moved))
+    writes = lambda count: until("they are written", lambda: trial.number("ledger_written_total") == count)
+    trial.ask(5)
+    writes(5)
+    moved.write_text("3590000")
+    time.sleep(2)
+    hope("before the hour", len(trial.told_sums()), 1)
+    moved.write_text("3600001")
+    until("an hour", lambda: len(trial.told_sums()) == 2)
+    hope("the sum", trial.told_sums()[-1], (0, 5, trial.sums()))
+    clock.set(1)
+    until("the next file", lambda: len(trial.told_sums()) == 3)
+    begun = trial.sums(trial.files()[:1])
+    hope("the sum before it", trial.told_sums()[-1], (1, 5, begun))
+    trial.ask(3)
+    trial.ends()
+    hope("the sum at the end", trial.told_sums()[3:], [(1, 8, trial.sums())])
+    trial.is_all_there()
 
 
 def writes_none_unasked(trial):
@@ -359,7 +442,7 @@ def a_slow_write_delays_no_answer(trial):
     trial.answers_as_without()
     trial.ends(seconds=LAST)
     missing = len(set(trial.told) - {entry["response"] for entry in trial.entries()})
-    hope("what is told", trial.log.read_text(), f"level=error event=ledger-left count={missing}\nlevel=error event=ledger-missing lane=0 from={500 - missing} to=499\n")
+    hope("what is told", trial.log_lines(), [f"level=error event=ledger-left count={missing}", f"level=error event=ledger-missing lane=0 from={500 - missing} to=499"])
 
 
 def writes_of_twelve_seconds_lose_nothing(trial):
@@ -452,7 +535,7 @@ def a_run_that_ends_by_a_fault_is_open(trial):
     near.close()
     hope("status", trial.ran.wait(PATIENCE), 4)
     trial.is_all_there("open")
-    hope("what is told", [line.split()[1] for line in trial.log.read_text().splitlines() if "event=" in line], ["event=input-fault"])
+    hope("what is told", [line.split()[1] for line in trial.log_lines() if "event=" in line], ["event=input-fault"])
 
 
 def a_file_that_is_there_is_left(trial):
@@ -507,7 +590,7 @@ def a_folder_that_is_a_file_is_told(trial):
     trial.answers_as_without()
     trial.ends(seconds=LAST)
     hope("the file", trial.folder.read_text(), "no folder")
-    hope("what is told", [line.split(" reason=")[0] for line in trial.log.read_text().splitlines()],
+    hope("what is told", [line.split(" reason=")[0] for line in trial.log_lines()],
          ["level=error event=ledger-fault", "level=error event=ledger-left count=300", "level=error event=ledger-missing lane=0 from=0 to=299"])
 
 
@@ -667,9 +750,10 @@ class TwoLanes:
         hope("names", [file.name[11:] for file in found], [f"{run}-{number:06}.jsonl" for number in range(len(files))])
         for file, wanted in zip(found, files):
             written = file.read_bytes().decode()
-            hope(file.name, TIME.sub("TIME", written), TIME.sub("TIME", wanted.replace(f"{A_RUN:016x}", run)))
+            hope(file.name, SUM.sub("SUM", TIME.sub("TIME", written)), SUM.sub("SUM", TIME.sub("TIME", wanted.replace(f"{A_RUN:016x}", run))))
             moments = [datetime.fromisoformat(f"{moment}+00:00").timestamp() for moment in TIME.findall(written)]
             hope("moments", all(self.began - 0.001 <= moment <= time.time() for moment in moments), True)
+        self.trial.sums()
 
     def has_failed_once(self):
         told = [len(self.trial.events(event)) for event in ("ledger-fault", "ledger-back", "ledger-left")]
@@ -701,7 +785,7 @@ def lines_are_those_that_python_makes(trial):
             lines.append(lanes.pass_on(255, user_name(b"bob"), 1, user="bob"))
             until("they are written", lambda: len(lanes.trial.entries()) == len(lines) - 1)
             lanes.trial.ends()
-            lanes.has_files(text([*lines, lanes.run.end_of_all()]))
+            lanes.has_files(text(chained([*lines, lanes.run.end_of_all()])))
 
 
 def a_run_without_responses_has_two_lines(trial):
@@ -709,22 +793,22 @@ def a_run_without_responses_has_two_lines(trial):
     for most in ("0", "7"):
         with two_lanes(trial, WRITE_MOST=most) as lanes:
             lanes.trial.ends()
-            lanes.has_files(text([lanes.run.begin(), lanes.run.end_of_all()]))
+            lanes.has_files(text(chained([lanes.run.begin(), lanes.run.end_of_all()])))
 
 
 def a_line_that_is_cut_short_is_gone_on_with(trial):
     """Where a disk is full in the second entry and has room again, the file goes on where it stopped. Where it is full once more, the
     next file has that entry whole, and its first line the serials behind what the first file has."""
-    empty = text([Run(A_RUN, [Lane(0, "h1", b""), Lane(1, "h2", b"")]).begin()])
+    empty = text(chained([Run(A_RUN, [Lane(0, "h1", b""), Lane(1, "h2", b"")]).begin()]))
     for faults, room in (("1", len(empty) + 700), ("2", len(empty) + 700), ("1", 48)):
         with two_lanes(trial, WRITE_FAULTS=faults, ROOM=str(room)) as lanes:
-            first = lanes.run.begin()
+            (first,) = chained([lanes.run.begin()])
             entries = lanes.pass_two()
             until("they are written", lambda: lanes.trial.number("ledger_written_total") == 2)
             lanes.trial.ends()
             whole = text([first, *entries])
             second = {**first, "file": 1, "lanes": [{"lane": 0, "home": "h1", "serial": 1}, {"lane": 1, "home": "h2", "serial": 0}]}
-            last = text([lanes.run.end_of_all()])
+            last = text(chained([lanes.run.end_of_all()]))
             hope("it is cut in the second entry", room == 48 or len(text([first, entries[0]])) < room < len(whole), True)
             lanes.has_files(*([whole + last] if faults == "1" else [whole[:room], text([second, entries[1]]) + last]))
             lanes.has_failed_once()
@@ -733,7 +817,7 @@ def a_line_that_is_cut_short_is_gone_on_with(trial):
 def a_disk_that_takes_no_more_has_what_it_took(trial):
     """Where a disk is full in the first line and stays full, the first file has what there was room for, and nothing comes behind it."""
     with two_lanes(trial, WRITE_FAULTS="1000000", ROOM="48") as lanes:
-        first = text([lanes.run.begin()])
+        first = text(chained([lanes.run.begin()]))
         lanes.pass_two()
         until("it is told", lambda: lanes.trial.events("ledger-fault"))
         lanes.trial.ends(seconds=LAST)
@@ -749,13 +833,13 @@ def a_file_that_was_made_is_gone_on_with(trial):
             entries = lanes.pass_two()
             until("they are written", lambda: lanes.trial.number("ledger_written_total") == 2)
             lanes.trial.ends()
-            lanes.has_files(text([first, *entries, lanes.run.end_of_all()]))
+            lanes.has_files(text(chained([first, *entries, lanes.run.end_of_all()])))
             hope("its mode", lanes.trial.files()[0].stat().st_mode & 0o7777, 0o640)
             lanes.has_failed_once()
 
 
 TESTS = [
-    writes_what_was_acknowledged, writes_none_unasked, ends_a_run_with_requests_left, a_program_that_cannot_serve_leaves_no_file,
+    writes_what_was_acknowledged, names_the_file_of_another_run_before, tells_the_sum_each_hour, writes_none_unasked, ends_a_run_with_requests_left, a_program_that_cannot_serve_leaves_no_file,
     is_written_within_a_tenth_of_a_second, a_folder_that_is_not_there_is_told, a_folder_that_goes_away_and_comes_back, a_folder_that_is_made_anew,
     a_limit_of_size_is_a_next_file, a_full_disk_loses_nothing, a_slow_write_delays_no_answer, slow_writes_lose_nothing,
     drops_are_counted, a_killed_run_is_open, a_run_that_ends_by_a_fault_is_open, a_file_that_is_there_is_left, is_synced_each_second,
