@@ -18,7 +18,7 @@ mod utc;
 pub use batch::{Batch, LineHead};
 pub use chain::{Chain, SUM_OCTETS, digest_of};
 pub use disk::{DiskFault, FoundFile, LedgerDisk};
-pub use file_name::{FileName, run_in};
+pub use file_name::FileName;
 pub use pending::{Pending, write_rest};
 pub use rotation::{FileDay, MOST_OCTETS, OpenFile, STAY, StepBack, is_next_due};
 pub use run_files::RunFiles;

@@ -359,7 +359,8 @@ impl<W: Write> Report<'_, W> {
         ensures findings { self.new.findings ≡ record self.old.findings { wrong = true } }
         ensures fault { IfErr result (λ fault. fault ≡ Output) }
     {
-        self.findings.wrong = true;
+        let Findings { gap, .. } = self.findings;
+        self.findings = Findings { wrong: true, gap };
         written(writeln!(self.outputs.lines, "{line}"))
     }
 

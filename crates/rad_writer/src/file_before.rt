@@ -1,6 +1,6 @@
 //! Finding the file of another run that was written last.
 
-use ledger_files::{FoundFile, SUM_OCTETS, run_in};
+use ledger_files::{FoundFile, SUM_OCTETS};
 use sha2::{Digest, Sha256};
 use std::alloc::{AllocGlobal, Global};
 use std::fs::{self, Files};
@@ -9,6 +9,12 @@ use std::os::unix::fs::MetadataExt;
 
 /// How many octets of a file are read at once.
 const READ_OCTETS: usize = 65_536;
+
+/// How many digits the name of a run has.
+const RUN_DIGITS: usize = 16;
+
+/// How many digits the number of a file has at least.
+const NUMBER_DIGITS: usize = 6;
 
 /// The name of a file, and when it was written last, in seconds since 1970 and nanoseconds behind these.
 #[derive(Drop)]
@@ -95,4 +101,21 @@ fn read_file<F: Read + Drop>(alloc: Global, file: F) -> Option<(u64, [u8; SUM_OC
         }
     }
     None
+}
+
+/// Returns the name of the run, in digits, that the name of a ledger's file ends with before the number of the file. A name
+/// of another form has none.
+fn run_in(name: &str) -> Option<&str> {
+    let (front, number) = name.strip_suffix(".jsonl")?.rsplit_once('-')?;
+    if number.len() < NUMBER_DIGITS || !are_digits(number, false) {
+        return None;
+    }
+    let (_, run) = front.split_at_checked(front.len().checked_sub(RUN_DIGITS)?)?;
+    if are_digits(run, true) { Some(run) } else { None }
+}
+
+/// Whether these are digits, decimal or hexadecimal in lower case.
+fn are_digits(text: &str, hexadecimal: bool) -> bool {
+    text.bytes()
+        .all(|octet| octet.is_ascii_digit() || hexadecimal && octet >= b'a' && octet <= b'f')
 }

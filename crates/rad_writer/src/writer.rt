@@ -1,6 +1,6 @@
 //! The thread that writes the entries to files.
 
-ghost use Rattle.std.specs.Prelude.{◌≡◌, ◌≤◌, ◌+◌, [], slice_range, vec_len};
+ghost use Rattle.std.specs.Prelude.{◌≡◌, ◌≤◌, ◌+◌, [], ◌∷◌, slice_range, vec_len};
 ghost use Rattle.std.specs.Int.{from_be_bytes, w64};
 ghost use Rattle.ledger_files.specs.Batches.{HoldsLines};
 
@@ -550,7 +550,9 @@ fn put_at(numbers: &mut Vec<u64>, lane: usize, number: u64) {
 }
 
 /// Returns a sum, as four numbers of eight octets each.
-fn words_of(sum: [u8; SUM_OCTETS]) -> [u64; 4] {
+fn words_of(sum: [u8; SUM_OCTETS]) -> [u64; 4]
+    ensures { result ≡ from_be_bytes w64 (slice_range sum 0 8) ∷ from_be_bytes w64 (slice_range sum 8 16) ∷ from_be_bytes w64 (slice_range sum 16 24) ∷ from_be_bytes w64 (slice_range sum 24 32) ∷ [] }
+{
     [
         word_at(&sum, 0),
         word_at(&sum, 8),
