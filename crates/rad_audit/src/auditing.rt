@@ -12,8 +12,8 @@ use crate::faults::Fault;
 use crate::kept_sums::KeptSums;
 use crate::line_room::{LineRoom, Piece};
 use crate::printing::{
-    BackLine, FatesLine, Findings, GapLine, HiddenLine, LaneLine, LaneName, Outputs, Place, RangesLine,
-    Report, SumLine, TornLine, WrongLine,
+    BackLine, FatesLine, Findings, GapLine, HiddenLine, LaneLine, LaneName, Outputs, Place,
+    RangesLine, Report, SumLine, TornLine, WrongLine,
 };
 use crate::runs::{Lane, Run, Runs};
 use crate::taking::{Taken, judge_stray, judge_stray_left, take_entry, take_left};

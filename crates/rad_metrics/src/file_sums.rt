@@ -91,7 +91,8 @@ impl FileSums {
         if number >= self.told.load(Ordering::SeqCst) {
             return None;
         }
-        self.logged.store(number.saturating_add(1), Ordering::SeqCst);
+        self.logged
+            .store(number.saturating_add(1), Ordering::SeqCst);
         let place = self.place(number)?;
         let its = FileSum {
             run: place.run.load(Ordering::SeqCst),

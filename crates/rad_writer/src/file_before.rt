@@ -111,11 +111,15 @@ fn run_in(name: &str) -> Option<&str> {
         return None;
     }
     let (_, run) = front.split_at_checked(front.len().checked_sub(RUN_DIGITS)?)?;
-    if are_digits(run, true) { Some(run) } else { None }
+    if are_digits(run, true) {
+        Some(run)
+    } else {
+        None
+    }
 }
 
 /// Whether these are digits, decimal or hexadecimal in lower case.
 fn are_digits(text: &str, hexadecimal: bool) -> bool {
-    text.bytes()
-        .all(|octet| octet.is_ascii_digit() || hexadecimal && octet >= b'a' && octet <= b'f')
+    text.bytes().all(|octet| octet.is_ascii_digit()
+        || hexadecimal && octet >= b'a' && octet <= b'f')
 }
