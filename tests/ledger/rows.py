@@ -15,7 +15,7 @@ from tools.version import VERSION
 
 SECONDS = 60
 INPUT_OCTETS, OUTPUT_OCTETS, SESSION_TIME, INPUT_GIGAWORDS, OUTPUT_GIGAWORDS = 42, 43, 46, 52, 53
-USAGE = "usage: rad_audit [--rows] CONFIG FILE.."
+USAGE = "usage: rad_audit [--rows] [--sum RUN:FILE:SUM].. CONFIG FILE.."
 
 # Values that a word can't have as they are, or that look like others: as the user's name and as the session.
 VALUES = [*packets.WORDS, b"-", b"--", b" - ", b"a\tb", b"a\nb", b"a\r\n", b"a\\tb", b"\\N", b"\\", b"%", b"%2d", b"a%09b", b"=\"'", b" ",
