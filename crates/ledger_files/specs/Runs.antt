@@ -79,7 +79,7 @@ pub record IsOpenFile (file : File) (part : Part) (first : Begun) (left : List (
   pub octets : file.octets ≡ take first.done first.octets ++ (concat part.lines ++ (take written (concat left) ++ take last.done last.octets))
   pub in_order : ((first.is_passed ≡ true) × (first.done ≡ length first.octets)) ⊎ ((first.is_passed ≡ false) × (part.lines ≡ []) × (written ≡ 0) × (last.done ≡ 0))
   pub at_end : (left ≡ []) ⊎ (last.done ≡ 0)
-  pub over : (last.is_passed ≡ false) ⊎ ((first.is_passed ≡ true) × (left ≡ []) × (last.done ≡ length last.octets) × (0 < length last.octets))
+  pub over : (last.is_passed ≡ false) ⊎ ((last.is_passed ≡ true) × (first.is_passed ≡ true) × (left ≡ []) × (last.done ≡ length last.octets) × (0 < length last.octets))
   pub passed : part.passed ≡ passed_in first.is_passed first.octets part.lines last.is_passed last.octets
 
 -- The same of the newest file. Nothing is written if there is none.
