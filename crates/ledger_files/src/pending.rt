@@ -1,9 +1,7 @@
 //! Octets that are to be written, and how far they are written.
 
-ghost use Rattle.std.specs.Prelude.{◌≡◌, ◌↔◌, ◌≤◌, ◌++◌, false, ℕ, List, length, vec_len, slice_range, IsOk, IsTrue, OnOk};
-ghost use Rattle.ledger_files.specs.Chains.{chain_of};
+ghost use Rattle.std.specs.Prelude.{◌≡◌, ◌≤◌, length, vec_len, slice_range, IsOk, OnOk};
 ghost use Rattle.ledger_files.specs.Files.{wrote};
-ghost use Rattle.ledger_files.specs.Passing.{Passes, newly_passed};
 
 use crate::chain::Chain;
 use crate::disk::{DiskFault, LedgerDisk};
@@ -52,6 +50,11 @@ pub struct Pending {
 }
 
 impl Pending {
+    ghost use Rattle.std.specs.Prelude.{◌≡◌, ◌↔◌, ◌≤◌, ◌++◌, false, ℕ, List, vec_len, slice_range, IsOk, IsTrue, OnOk};
+    ghost use Rattle.ledger_files.specs.Chains.{chain_of};
+    ghost use Rattle.ledger_files.specs.Files.{wrote};
+    ghost use Rattle.ledger_files.specs.Passing.{Passes, newly_passed};
+
     /// Makes a value of octets, none of which is written.
     pub fn new(octets: Vec<u8>) -> Pending
         ensures { (result.octets.items ≡ octets.items) × (result.done ≡ 0) × (result.is_passed ≡ false) }
