@@ -1,5 +1,5 @@
 -- What each call leaves of a run.
-use Rattle.std.proofs.Common.{◌≡◌, ℕ, ◌+◌, ◌-◌, ◌<◌, ◌≤◌, ◌⊎◌, Bool, true, false, inl, inr, List, [], ◌∷◌, ◌++◌, Option, Some, None, length, take, drop, get_or, refl, sym, ap, ◌∙◌, subst, ⊎_elim, arith, length-append, append-nil, add-one}
+use Rattle.std.proofs.Common.{◌≡◌, ℕ, zero, suc, ◌+◌, ◌-◌, ◌<◌, ◌≤◌, ◌⊎◌, Bool, true, false, inl, inr, List, [], ◌∷◌, ◌++◌, Option, Some, None, Result, Ok, Err, MatchResult, length, take, drop, get_or, refl, sym, ap, ◌∙◌, subst, ⊎_elim, arith, length-append, append-nil, add-one}
 use Rattle.std.specs.Prelude.{IfSome, IsTrue, ◌↔◌}
 use Rattle.std.specs.List.{concat, slice_range}
 use Rattle.std.proofs.Math.Seq.{take-suc, drop-cons, drop-append-add}
@@ -8,7 +8,7 @@ use Rattle.std.proofs.lemmas.List.Folds.{concat-append}
 use Rattle.sha2.specs.Sha256.{sha256}
 use Rattle.ledger_files.specs.Batches.{HoldsLines}
 use Rattle.ledger_files.specs.Chains.{chain_after, chain_of}
-use Rattle.ledger_files.specs.Files.{File, IsOpen, with_octets, wrote, made}
+use Rattle.ledger_files.specs.Files.{File, IsOpen, with_octets, wrote, made, synced, with_synced}
 use Rattle.ledger_files.specs.Passing.{Passes, if_passed, newly_passed}
 use Rattle.ledger_files.specs.Runs.{Part, Begun, IsLeft, IsOpenRun, IsRunOf, IsRunWith, begun_of, passed_of}
 use Rattle.ledger_files.specs.declared.batch.Batch.{Batch}
@@ -16,7 +16,7 @@ use Rattle.ledger_files.specs.declared.pending.Pending.{Pending}
 use Rattle.ledger_files.proofs.Ends.{start_stays}
 use Rattle.ledger_files.proofs.Runs.{lines_and_one, with_done, as_passed, opposed}
 use Rattle.ledger_files.proofs.Chains.{line_more}
-use Rattle.ledger_files.proofs.RunSteps.{first_step, first_passes, entries_step, end_step, end_passes, passed_step, begin_step, add_step, ended_step, fresh}
+use Rattle.ledger_files.proofs.RunSteps.{first_step, first_passes, entries_step, end_step, end_passes, passed_step, begin_step, add_step, ended_step, synced_step, fresh}
 
 -- ---- the lines of a batch
 
@@ -158,6 +158,11 @@ Of files first batch last sum lines = IfSome files (λ fs. IsRunOf fs first batc
 -- What a chain is behind the next line, where it is that of the lines before.
 abbrev Goes : List ℕ → List ℕ → List (List ℕ) → Type 0
 Goes sum next more = (lines : List (List ℕ)) → sum ≡ chain_of lines → next ≡ chain_of (lines ++ more)
+
+-- What is not empty has octets.
+pub has_some : (b : Bool) (n : ℕ) → (IsTrue b ↔ (n ≡ 0)) → b ≡ false → 0 < n
+has_some b zero f e = absurd (opposed b (f.1 refl) e)
+has_some b (suc n) f e = omega arith
 
 none_of : (xs : List ℕ) → length xs ≡ 0 → xs ≡ []
 none_of [] e = refl
@@ -406,3 +411,22 @@ passed (Some fs) first old new last sum next lines opens t keeps d w some end g 
       batch_is = p.batch_is;
       run_is = passed_step (begun_of first) p.line p.more h.written (begun_of last) sum next lines p.now fs opens t all p.sum more (subst P p.left_is h.run_is);
     }
+
+pub was_synced : (before after : Option (List File)) (first : Pending) (batch : Batch) (last : Pending) (sum : List ℕ) (lines : List (List ℕ)) → after ≡ synced before
+    → Of before first batch last sum lines → Of after first batch last sum lines
+was_synced None after first batch last sum lines e h = let P : Option (List File) → Type 0 = λ x. Of x first batch last sum lines in subst P (sym e) h
+was_synced (Some fs) after first batch last sum lines e h =
+    let P : Option (List File) → Type 0 = λ x. Of x first batch last sum lines in
+    let is : IsRunOf (with_synced fs) first batch last sum lines = record {
+      left = h.left;
+      written = h.written;
+      batch_is = h.batch_is;
+      run_is = synced_step (begun_of first) h.left h.written (begun_of last) sum lines fs h.run_is;
+    } in
+    subst P (sym e) is
+
+-- What a sync leaves, whether it held or not.
+pub after_sync : {T E : Type 0} (result : Result T E) (before after : Option (List File)) (first : Pending) (batch : Batch) (last : Pending) (sum : List ℕ) (lines : List (List ℕ))
+    → MatchResult result (λ _. after ≡ synced before) (λ _. after ≡ before) → Of before first batch last sum lines → Of after first batch last sum lines
+after_sync (Ok t) before after first batch last sum lines e h = was_synced before after first batch last sum lines e h
+after_sync (Err f) before after first batch last sum lines e h = let P : Option (List File) → Type 0 = λ x. Of x first batch last sum lines in subst P (sym e) h

@@ -4,8 +4,8 @@ use Rattle.std.specs.List.{concat, slice_range}
 use Rattle.std.proofs.lemmas.List.{take-append-le}
 use Rattle.sha2.specs.Sha256.{sha256}
 use Rattle.ledger_files.specs.Chains.{chain_after, chain_of}
-use Rattle.ledger_files.specs.Files.{File, IsOpen, with_octets}
-use Rattle.ledger_files.specs.Runs.{Part, Begun, lines_of, passed_of, passed_in, AreFiles, IsOpenFile, IsOpenRun, IsRunWith}
+use Rattle.ledger_files.specs.Files.{File, IsOpen, with_octets, with_synced}
+use Rattle.ledger_files.specs.Runs.{Part, Begun, lines_of, passed_of, passed_in, IsFile, AreFiles, IsOpenFile, IsOpenRun, IsRunWith}
 use Rattle.ledger_files.proofs.Chains.{line_more}
 use Rattle.ledger_files.proofs.Runs.{files_longer, is_file, written_to, with_done, first_written, entries_written, end_written, as_passed, with_passed, first_passed, end_passed, with_line, lines_and_one, line_passed, files_passed}
 
@@ -86,11 +86,11 @@ module _ (first : Begun) (left : List (List ℕ)) (written : ℕ) (last : Begun)
       → next ≡ chain_after sum (sha256 last.octets)
       → lines ≡ lines_of parts ++ left → AreFiles files parts (concat left) → IsOpenRun files parts first left written last → sum ≡ chain_of (passed_of parts)
       → IsRunWith files first left written (as_passed last) next lines
-  end_passes_on [] parts opens p no none b some n e f o s = absurd opens
-  end_passes_on (file ∷ older) [] opens p no none b some n e f o s = absurd o
-  end_passes_on (file ∷ older) (part ∷ parts) opens p no none b some n e f o s =
+  end_passes_on [] parts opens p early none b some n e f o s = absurd opens
+  end_passes_on (file ∷ older) [] opens p early none b some n e f o s = absurd o
+  end_passes_on (file ∷ older) (part ∷ parts) opens p early none b some n e f o s =
       let to : Part = with_passed part last.octets in
-      let opened : IsOpenFile file to first left written (as_passed last) = end_passed file part first left written last o p no none b some in
+      let opened : IsOpenFile file to first left written (as_passed last) = end_passed file part first left written last o p early none b some in
       record {
         parts = to ∷ parts;
         lines_are = e;
@@ -102,7 +102,7 @@ module _ (first : Begun) (left : List (List ℕ)) (written : ℕ) (last : Begun)
   pub end_passes : (files : List File) → IsOpen files → first.is_passed ≡ true → last.is_passed ≡ false → left ≡ [] → last.done ≡ length last.octets → 0 < length last.octets
       → next ≡ chain_after sum (sha256 last.octets)
       → IsRunWith files first left written last sum lines → IsRunWith files first left written (as_passed last) next lines
-  end_passes files opens p no none b some n h = end_passes_on files h.parts opens p no none b some n h.lines_are h.files_are h.open_is h.sum_is
+  end_passes files opens p early none b some n h = end_passes_on files h.parts opens p early none b some n h.lines_are h.files_are h.open_is h.sum_is
 
 module _ (first : Begun) (line : List ℕ) (more : List (List ℕ)) (written : ℕ) (last : Begun) (sum next : List ℕ) (lines : List (List ℕ)) (now : ℕ) where
   passed_on : (files : List File) (parts : List Part) → IsOpen files → first.is_passed ≡ true → first.done ≡ length first.octets → length line + now ≡ written → next ≡ chain_after sum (sha256 line)
@@ -153,7 +153,7 @@ module _ (files : List File) (first : Begun) (left : List (List ℕ)) (written :
     in_order = o.in_order;
     at_end = inr z;
     over = ⊎_elim
-        (λ (no : last.is_passed ≡ false). inl no)
+        (λ (early : last.is_passed ≡ false). inl early)
         (λ (over : (last.is_passed ≡ true) × (first.is_passed ≡ true) × (left ≡ []) × (last.done ≡ length last.octets) × (0 < length last.octets)). absurd (omega (arith, over.4, ap length none)))
         o.over;
     passed = o.passed;
@@ -182,8 +182,8 @@ module _ (files : List File) (first : Begun) (left : List (List ℕ)) (written :
   ended_on line [] parts none z e f o s = record { parts = parts; lines_are = e; files_are = f; open_is = (o.0, o.1, refl, refl); sum_is = s }
   ended_on line (file ∷ older) [] none z e f o s = absurd o
   ended_on line (file ∷ older) (part ∷ parts) none z e f o s =
-      let no : last.is_passed ≡ false = ⊎_elim
-      (λ (no : last.is_passed ≡ false). no)
+      let early : last.is_passed ≡ false = ⊎_elim
+      (λ (early : last.is_passed ≡ false). early)
       (λ (over : (last.is_passed ≡ true) × (first.is_passed ≡ true) × (left ≡ []) × (last.done ≡ length last.octets) × (0 < length last.octets)). absurd (omega (arith, over.4, ap length none)))
       o.over in
       let to : Part = record { begin = part.begin; lines = part.lines; end = line; passed = part.passed } in
@@ -194,10 +194,40 @@ module _ (files : List File) (first : Begun) (left : List (List ℕ)) (written :
         in_order = ⊎_elim (λ all. inl all) (λ none. inr (none.0, none.1, none.2, refl)) o.in_order;
         at_end = inr refl;
         over = inl refl;
-        passed = o.passed ∙ ap (λ (b : Bool). passed_in first.is_passed first.octets part.lines b last.octets) no ∙ same_passed first.is_passed last.octets line part.lines;
+        passed = o.passed ∙ ap (λ (b : Bool). passed_in first.is_passed first.octets part.lines b last.octets) early ∙ same_passed first.is_passed last.octets line part.lines;
       } in
       record { parts = to ∷ parts; lines_are = e; files_are = (is_file file to first left written (fresh line) opened, f.1); open_is = opened; sum_is = s }
 
   pub ended_step : (line : List ℕ) → last.octets ≡ [] → last.done ≡ 0 → IsRunWith files first left written last sum lines
       → IsRunWith files first left written (fresh line) sum lines
   ended_step line none z h = ended_on line files h.parts none z h.lines_are h.files_are h.open_is h.sum_is
+
+-- The open file is synced.
+abbrev as_synced : File → File
+as_synced file = record { path = file.path; octets = file.octets; synced = length file.octets }
+
+module _ (file : File) (part : Part) where
+  file_synced : (next : List ℕ) → IsFile file part next → IsFile (as_synced file) part next
+  file_synced next (inl h) = inl (record { lines = h.lines; front = h.front; passed = h.passed })
+  file_synced next (inr (inl h)) = inr (inl (record { cut = h.cut; front = h.front; octets = h.octets; passed = h.passed }))
+  file_synced next (inr (inr h)) = inr (inr (record { over = h.over; front = h.front; octets = h.octets; passed = h.passed }))
+
+  open_synced : (first : Begun) (left : List (List ℕ)) (written : ℕ) (last : Begun) → IsOpenFile file part first left written last → IsOpenFile (as_synced file) part first left written last
+  open_synced first left written last h =
+      record { begin = h.begin; end = h.end; octets = h.octets; in_order = h.in_order; at_end = h.at_end; over = h.over; passed = h.passed }
+
+module _ (first : Begun) (left : List (List ℕ)) (written : ℕ) (last : Begun) (sum : List ℕ) (lines : List (List ℕ)) where
+  synced_on : (files : List File) (parts : List Part) → lines ≡ lines_of parts ++ left → AreFiles files parts (concat left) → IsOpenRun files parts first left written last → sum ≡ chain_of (passed_of parts)
+      → IsRunWith (with_synced files) first left written last sum lines
+  synced_on [] parts e f o s = record { parts = parts; lines_are = e; files_are = f; open_is = o; sum_is = s }
+  synced_on (file ∷ older) [] e f o s = absurd o
+  synced_on (file ∷ older) (part ∷ parts) e f o s = record {
+    parts = part ∷ parts;
+    lines_are = e;
+    files_are = (file_synced file part (concat left) f.0, f.1);
+    open_is = open_synced file part first left written last o;
+    sum_is = s;
+  }
+
+  pub synced_step : (files : List File) → IsRunWith files first left written last sum lines → IsRunWith (with_synced files) first left written last sum lines
+  synced_step files h = synced_on files h.parts h.lines_are h.files_are h.open_is h.sum_is

@@ -52,7 +52,7 @@ module _ (file : File) (part : Part) (first : Begun) (left : List (List ℕ)) (w
 
   pub not_over : last.done ≡ 0 → last.is_passed ≡ false
   not_over e = ⊎_elim
-      (λ (no : last.is_passed ≡ false). no)
+      (λ (early : last.is_passed ≡ false). early)
       (λ (all : (last.is_passed ≡ true) × (first.is_passed ≡ true) × (left ≡ []) × (last.done ≡ length last.octets) × (0 < length last.octets)). absurd (omega (arith, e, all.3, all.4)))
       h.over
 
@@ -60,8 +60,8 @@ module _ (file : File) (part : Part) (first : Begun) (left : List (List ℕ)) (w
   passed_as p = h.passed ∙ ap (λ (b : Bool). passed_in b first.octets part.lines last.is_passed last.octets) p
 
   pub passed_lines : first.is_passed ≡ true → last.is_passed ≡ false → part.passed ≡ part.begin ∷ part.lines
-  passed_lines p no =
-      passed_as p ∙ ap (λ (b : Bool). passed_in true first.octets part.lines b last.octets) no ∙ ap (λ (x : List ℕ). x ∷ part.lines) (sym h.begin)
+  passed_lines p early =
+      passed_as p ∙ ap (λ (b : Bool). passed_in true first.octets part.lines b last.octets) early ∙ ap (λ (x : List ℕ). x ∷ part.lines) (sym h.begin)
 
   gone_on : first.is_passed ≡ true → first.done ≡ length first.octets → last.done ≡ 0 → IsGoneOn file part (concat left)
   gone_on p all e = record {
@@ -83,7 +83,7 @@ module _ (file : File) (part : Part) (first : Begun) (left : List (List ℕ)) (w
         ∙ ap (λ (x : List (List ℕ)). part.begin ++ (concat part.lines ++ (take written (concat x) ++ take last.done last.octets))) none
         ∙ ap (λ (x : List ℕ). part.begin ++ (concat part.lines ++ (x ++ take last.done last.octets))) (take_all written [] (omega arith));
     passed = ⊎_elim
-        (λ (no : last.is_passed ≡ false). inl (passed_lines p no))
+        (λ (early : last.is_passed ≡ false). inl (passed_lines p early))
         (λ (over : (last.is_passed ≡ true) × (first.is_passed ≡ true) × (left ≡ []) × (last.done ≡ length last.octets) × (0 < length last.octets)). inr (
           take_all last.done last.octets (omega (arith, over.3)) ∙ sym h.end,
           passed_as p
@@ -205,7 +205,7 @@ module _ (file : File) (part : Part) (first : Begun) (left : List (List ℕ)) (w
         in_order = inl (p, begun_all);
         at_end = inl none;
         over = ⊎_elim
-            (λ (no : last.is_passed ≡ false). inl no)
+            (λ (early : last.is_passed ≡ false). inl early)
             (λ (over : (last.is_passed ≡ true) × (first.is_passed ≡ true) × (left ≡ []) × (last.done ≡ length last.octets) × (0 < length last.octets)).
             let same : now ≡ length last.octets = omega (arith, l, k, over.3) in
             inr (over.0, over.1, over.2, same, over.4))
@@ -233,26 +233,26 @@ opposed b t f = cc
 module _ (file : File) (part : Part) (first : Begun) (left : List (List ℕ)) (written : ℕ) (last : Begun) (h : IsOpenFile file part first left written last) where
   pub first_passed : first.is_passed ≡ false → first.done ≡ length first.octets → IsOpenFile file (with_passed part first.octets) (as_passed first) left written last
   first_passed p all = ⊎_elim
-      (λ (no : (first.is_passed ≡ true) × (first.done ≡ length first.octets)). absurd (opposed first.is_passed no.0 p))
+      (λ (early : (first.is_passed ≡ true) × (first.done ≡ length first.octets)). absurd (opposed first.is_passed early.0 p))
       (λ (none : (first.is_passed ≡ false) × (part.lines ≡ []) × (written ≡ 0) × (last.done ≡ 0)).
-      let no : last.is_passed ≡ false = not_over file part first left written last h none.3 in
+      let early : last.is_passed ≡ false = not_over file part first left written last h none.3 in
       record {
         begin = h.begin;
         end = h.end;
         octets = h.octets;
         in_order = inl (refl, all);
         at_end = h.at_end;
-        over = inl no;
+        over = inl early;
         passed =
             ap (λ (x : List (List ℕ)). x ++ first.octets ∷ []) (h.passed ∙ ap (λ (b : Bool). passed_in b first.octets part.lines last.is_passed last.octets) p)
             ∙ ap (λ (x : List (List ℕ)). first.octets ∷ x) (sym none.1)
-            ∙ ap (λ (b : Bool). passed_in true first.octets part.lines b last.octets) (sym no);
+            ∙ ap (λ (b : Bool). passed_in true first.octets part.lines b last.octets) (sym early);
       })
       h.in_order
 
   pub end_passed : first.is_passed ≡ true → last.is_passed ≡ false → left ≡ [] → last.done ≡ length last.octets → 0 < length last.octets
       → IsOpenFile file (with_passed part last.octets) first left written (as_passed last)
-  end_passed p no none all some = record {
+  end_passed p early none all some = record {
     begin = h.begin;
     end = h.end;
     octets = h.octets;
@@ -260,7 +260,7 @@ module _ (file : File) (part : Part) (first : Begun) (left : List (List ℕ)) (w
     at_end = inl none;
     over = inr (refl, p, none, all, some);
     passed =
-        ap (λ (x : List (List ℕ)). x ++ last.octets ∷ []) (passed_lines file part first left written last h p no)
+        ap (λ (x : List (List ℕ)). x ++ last.octets ∷ []) (passed_lines file part first left written last h p early)
         ∙ ap (λ (x : List ℕ). x ∷ (part.lines ++ last.octets ∷ [])) h.begin
         ∙ ap (λ (b : Bool). passed_in b first.octets part.lines true last.octets) (sym p);
   }
@@ -273,8 +273,8 @@ line_passed file part first line more last written now p begun_all sum h =
     ap (λ (n : ℕ). take n (line ++ concat more)) (sym sum) ∙ take-append-add line (concat more) now in
     let a = take first.done first.octets in
     let some : (line ∷ more ≡ []) → ⊥ = λ e. absurd (omega (arith, ap length e)) in
-    let no : last.is_passed ≡ false = ⊎_elim
-    (λ (no : last.is_passed ≡ false). no)
+    let early : last.is_passed ≡ false = ⊎_elim
+    (λ (early : last.is_passed ≡ false). early)
     (λ (over : (last.is_passed ≡ true) × (first.is_passed ≡ true) × (line ∷ more ≡ []) × (last.done ≡ length last.octets) × (0 < length last.octets)). absurd (some over.2))
     h.over in
     record {
@@ -290,11 +290,11 @@ line_passed file part first line more last written now p begun_all sum h =
           (λ (none : line ∷ more ≡ []). absurd (some none))
           (λ (none : last.done ≡ 0). inr none)
           h.at_end;
-      over = inl no;
+      over = inl early;
       passed =
-          ap (λ (x : List (List ℕ)). x ++ line ∷ []) (passed_lines file part first (line ∷ more) written last h p no)
+          ap (λ (x : List (List ℕ)). x ++ line ∷ []) (passed_lines file part first (line ∷ more) written last h p early)
           ∙ ap (λ (x : List ℕ). x ∷ (part.lines ++ line ∷ [])) h.begin
-          ∙ ap (λ (b : Bool). passed_in true first.octets (part.lines ++ line ∷ []) b last.octets) (sym no)
+          ∙ ap (λ (b : Bool). passed_in true first.octets (part.lines ++ line ∷ []) b last.octets) (sym early)
           ∙ ap (λ (b : Bool). passed_in b first.octets (part.lines ++ line ∷ []) last.is_passed last.octets) (sym p);
     }
 
