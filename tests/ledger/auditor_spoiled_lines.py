@@ -24,6 +24,7 @@ import sys
 import tempfile
 
 from tests.lib import TOP, Lane, Run, text
+from tests.lib.ledgers import chained
 
 SECONDS = 300
 HOME, NAS = b"home-secret", b"nas-secret"
@@ -224,7 +225,7 @@ def of_places(program, folder):
 def of_speed(program, folder):
     run = Run(1, [Lane(0, "h1", HOME)])
     lines = [run.begin(), *(run.entry(client=("192.0.2.10", NAS), more=bytes([26, 122]) + bytes(120)) for _ in range(ENTRIES)), run.end()]
-    printed, err, status, took = read(program, folder, text(lines))
+    printed, err, status, took = read(program, folder, text(chained(lines)))
     a_second = ENTRIES / max(took, 0.001)
     print(f"{ENTRIES} entries in {took:.2f} s of processor time: {a_second:.0f} a second")
     if status != 0 or a_second < LEAST:
