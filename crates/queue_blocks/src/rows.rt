@@ -1,5 +1,5 @@
 //! The operations of a list on its rows, each of which may be absent.
-ghost use Rattle.std.specs.Prelude.{◌≡◌, ◌+◌, ◌<◌, ◌≤◌, [], ◌∷◌, ◌++◌, true, List, None, length, min, take as take_list, drop as drop_list, option_copied, slice_get, slice_set, vec_len, vec_capacity};
+ghost use Rattle.std.specs.Prelude.{◌≡◌, ◌+◌, ◌-◌, ◌/◌, ◌^◌, ◌<◌, ◌≤◌, [], ◌∷◌, ◌++◌, true, List, None, length, max, min, take as take_list, drop as drop_list, option_copied, slice_get, slice_set, vec_len, vec_capacity};
 ghost use Rattle.queue_blocks.specs.Sliding.{items_in, room_in, below, since, IsFront};
 
 use crate::numbered::Numbered;
@@ -13,7 +13,8 @@ const LEAST_PLACES: usize = 32;
 
 /// Returns how many places a row for `count` items is made with: one and a half times as many, and some more.
 pub(crate) fn places_for(count: usize) -> usize
-    ensures { 1 ≤ result }
+    ensures value { result ≡ min (count / 2 + count + 32) (2 ^ 64 - 1) }
+    ensures some { 1 ≤ result }
 {
     (count / 2)
         .saturating_add(count)
@@ -58,6 +59,7 @@ pub(crate) fn take_next<T: Drop>(
 )
     ensures row { row.new ≡ next.old }
     ensures next { next.new ≡ None }
+    ensures spent { spent.new ≡ row.old }
 {
     let taken = mem::replace(next, None);
     *spent = mem::replace(row, taken);
@@ -92,6 +94,35 @@ pub(crate) fn drop_first<T: Drop>(row: &mut Option<Row<T>>, count: usize)
     if let Some(row) = row {
         pop_each(row, count);
     }
+}
+
+/// Drops the first `count` items of a spent row, or all if there are fewer, and releases its memory once it has none.
+pub(crate) fn spend<T: Drop>(spent: &mut Option<Row<T>>, count: usize)
+    ensures items { items_in spent.new ≡ drop_list count (items_in spent.old) }
+    ensures memory { items_in spent.new ≡ [] → spent.new ≡ None }
+{
+    drop_first(spent, count);
+    if slice_of(spent).is_empty() {
+        *spent = None;
+    }
+}
+
+/// Drops the first `count` items of a row and of the next one, and of the spent row as many or `least`, whichever is
+/// more.
+pub(crate) fn drop_of_each<T: Drop>(
+    row: &mut Option<Row<T>>,
+    next: &mut Option<Row<T>>,
+    spent: &mut Option<Row<T>>,
+    count: usize,
+    least: usize,
+)
+    ensures row { items_in row.new ≡ drop_list count (items_in row.old) }
+    ensures next { items_in next.new ≡ drop_list count (items_in next.old) }
+    ensures spent { items_in spent.new ≡ drop_list (max least count) (items_in spent.old) }
+{
+    spend(spent, least.max(count));
+    drop_first(next, count);
+    drop_first(row, count);
 }
 
 fn pop_each<T: Drop>(row: &mut Row<T>, count: usize)

@@ -6,8 +6,8 @@ use crate::numbered::Numbered;
 use crate::removed::{Removed, Spent};
 use crate::row::Row;
 use crate::rows::{
-    copy_to, drop_first, follow_set, has_all, places_for, push_to, room_of, set_in, slice_of,
-    take_below, take_next,
+    copy_to, drop_of_each, follow_set, has_all, places_for, push_to, room_of, set_in, slice_of,
+    spend, take_below, take_next,
 };
 use crate::sharing::Share;
 use std::alloc::{AllocError, Global};
@@ -91,7 +91,7 @@ impl<T: Share + Drop> SlidingList<T> {
         ensures items { self.new.items ≡ self.old.items }
         ensures ok { OnOk result (1 ≤ self.new.room) }
     {
-        self.spend(STEP);
+        spend(&mut self.spent, STEP);
         self.begin();
         self.copy(STEP);
         self.exchange();
@@ -99,16 +99,6 @@ impl<T: Share + Drop> SlidingList<T> {
             return Ok(());
         }
         self.move_all()
-    }
-
-    /// Drops at most `count` items of the spent row, and releases its memory once it has none.
-    fn spend(&mut self, count: usize)
-        ensures { self.new ≡ self.old }
-    {
-        drop_first(&mut self.spent, count);
-        if slice_of(&self.spent).is_empty() {
-            self.spent = None;
-        }
     }
 
     /// Makes the next row if the row has little room left. If memory for it is refused, a later call makes it.
@@ -179,9 +169,7 @@ impl<T: Share + Drop> SlidingList<T> {
         requires { count ≤ length self.old.items }
         ensures { self.new.items ≡ drop_list count self.old.items }
     {
-        self.spend(STEP.max(count));
-        drop_first(&mut self.next, count);
-        drop_first(&mut self.row, count);
+        drop_of_each(&mut self.row, &mut self.next, &mut self.spent, count, STEP);
     }
 }
 

@@ -6,7 +6,7 @@ use Rattle.queue_blocks.proofs.sliding_list.SlidingList.drop_front.Goals as goal
 pub invariant_of-self : goal.invariant_of-self
 invariant_of-self g c =
     let l = c.self.inside in
-    rw (c.drop_first.ensures, c.drop_first-2.ensures) (front_dropped c.args.count (items_in l.next) (items_in l.row) c.self.invariant)
+    rw (c.drop_of_each.ensures.next, c.drop_of_each.ensures.row) (front_dropped c.args.count (items_in l.next) (items_in l.row) c.self.invariant)
 
 pub returns : goal.returns
-returns g c = c.drop_first-2.ensures ∙ ap (λ q. drop c.args.count q.items) (c.self.view_is ∙ c.spend.ensures)
+returns g c = c.drop_of_each.ensures.row ∙ ap (λ q. drop c.args.count q.items) c.self.view_is
