@@ -204,10 +204,10 @@ PLACES = {
     "rad_replay": (1, 3), "rad_addresses": (2, 3), "rad_metrics": (3, 3), "rad_ledger": (4, 3),
     "rad_console": (2, 4), "rad_log": (4, 4), "rad_simulation": (5, 4),
     "rad_desk": (3, 5),
-    "rad_rings": (3, 6), "rad_progress": (4, 6),
+    "rad_locks": (3, 6), "rad_progress": (4, 6),
     "rad_advice": (0, 7), "rad_lane": (3, 7),
     "rad_realms": (2, 8), "block_queue": (3, 8), "rad_tables": (4, 8),
-    "rad_config": (2, 9), "queue_blocks": (3, 9),
+    "rad_config": (2, 9), "raw_lists": (3, 9),
     "rad_auth": (2, 10),
     "rad_packet": (2, 11),
 }

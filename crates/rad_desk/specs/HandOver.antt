@@ -4,8 +4,8 @@ use Rattle.std.specs.Prelude.{◌≡◌, List, [], ◌∷◌, ◌++◌, Option, 
 use Rattle.std.specs.List.{flat_map}
 use Rattle.rad_realms.specs.Configuration.{Configuration}
 use Rattle.rad_lane.specs.declared.outgoing.Outgoing.{Outgoing}
-use Rattle.rad_rings.specs.declared.inlet.Inlet.{Inlet}
-use Rattle.rad_rings.specs.Inlet.{taken}
+use Rattle.rad_locks.specs.declared.inlet.Inlet.{Inlet}
+use Rattle.rad_locks.specs.Inlet.{taken}
 use Rattle.rad_desk.specs.Traffic.{Event}
 use Rattle.rad_desk.specs.Once.{Part, quiet, back, given, WorksInFront}
 

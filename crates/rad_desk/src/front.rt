@@ -17,9 +17,9 @@ use crate::tally::Tally;
 use crate::wire::Wire;
 use rad_auth::check_response;
 use rad_lane::Taken;
+use rad_locks::{Inlet, Proxy};
 use rad_packet::Datagram;
 use rad_realms::{Config, Endpoint, Incoming, check_in};
-use rad_rings::{Inlet, Proxy};
 use std::alloc::Global;
 use std::sync::Wait;
 

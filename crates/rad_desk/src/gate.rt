@@ -4,8 +4,8 @@ ghost use Rattle.std.specs.Prelude.{◌≡◌};
 ghost use Rattle.rad_desk.specs.Reports.{note_of};
 
 use rad_lane::Refusal;
+use rad_locks::{DeskFault, Origin, Spent, Standing};
 use rad_realms::{Dropped, Endpoint};
-use rad_rings::{DeskFault, Origin, Spent, Standing};
 use rad_tables::{Moment, Slot};
 
 /// The worker that asks or reports.
