@@ -1,6 +1,6 @@
 //! The mark: the Proxy-State that the proxy adds to a forwarded request.
 
-use crate::copying::put;
+use crate::octets::put;
 
 /// The length of the mark's attribute in octets: Type, Length and Value.
 pub const MARK_LENGTH: usize = 12;
