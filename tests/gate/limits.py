@@ -45,7 +45,7 @@ NUMBERS = {
     "rad_auth/src/hmac.rt": {"BLOCK_LENGTH": ("64", PROVED)},
     "rad_auth/src/lib.rt": {"ACCOUNTING_REQUEST": ("4", PROVED), "ACCOUNTING_RESPONSE": ("5", PROVED), "STATUS_SERVER": ("12", PROVED),
                             "PROXY_STATE": ("33", PROVED), "MESSAGE_AUTHENTICATOR": ("80", PROVED)},
-    "rad_auth/src/mark.rt": {"MARK_LENGTH": ("12", PROVED)},
+    "rad_auth/src/mark.rt": {"MARK_LENGTH": ("12", PROVED), "VALUE_LENGTH": ("MARK_LENGTH - 2", PROVED)},
     "rad_auth/src/secret.rt": {"GREATEST_SECRET_LENGTH": ("128", PROVED)},
     "rad_auth/src/status.rt": {"MESSAGE_AUTHENTICATOR_LENGTH": ("18", PROVED)},
     "rad_config/src/realms.rt": {"LONGEST_REALM": ("252", PROVED)},
