@@ -25,7 +25,7 @@ mod told_values;
 mod wire;
 
 pub use front::{front_worker, front_worker_with};
-pub use gate::{Call, Gate, Go, Note, Repeat, UpReason, Worker, WorkerReport};
+pub use gate::{Asked, Call, Gate, Go, Note, Repeat, UpReason, Worker, WorkerReport};
 pub use lanes::lane_worker;
 pub use leaving::{LeftRecord, LeftState, tell_left};
 pub use ledger::{Handed, Ledger, NoLedger};

@@ -8,7 +8,7 @@ use crate::left_log::LeftLog;
 use crate::reporter::Reporter;
 use crate::sums::Sums;
 use crate::tracer::Tracer;
-use rad_desk::{Call, Gate, Go, Ledger, Worker, WorkerReport};
+use rad_desk::{Asked, Call, Gate, Go, Ledger, Worker, WorkerReport};
 use rad_log::{Level, Log, logs_at};
 use rad_metrics::Numbers;
 use rad_realms::Config;
@@ -90,12 +90,11 @@ impl<L: Log, R: Clock> Gate for Telemetry<'_, L, R> {
 
     fn after(&self, _worker: Worker, _call: Call) {}
 
-    fn asks(&self, lane: u16) -> bool {
-        self.numbers.asks(lane)
-    }
-
-    fn traces(&self) -> bool {
-        self.events.tracer.is_on() || logs_at(self.events.log, Level::Trace)
+    fn asks(&self, lane: u16) -> Asked {
+        Asked {
+            standing: self.numbers.asks(lane),
+            origins: self.events.tracer.is_on() || logs_at(self.events.log, Level::Trace),
+        }
     }
 
     fn report(&self, worker: Worker, report: &WorkerReport<'_>) {
