@@ -33,7 +33,7 @@ fn is_the_same(kept: &Reply, given: &Reply) -> bool
         && are_same(given.response(), kept.response())
 }
 
-/// Returns whether these octets are the same.
+/// For the proof: returns whether these octets are the same.
 fn are_same(given: &[u8], kept: &[u8]) -> bool
     ensures { IsTrue result ↔ given.now ≡ kept.now }
 {
