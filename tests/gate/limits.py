@@ -33,7 +33,7 @@ NUMBERS = {
     "rad_addresses/src/known_addresses.rt": {"MOST": ("512", "network/several_addresses test_many_addresses")},
     "rad_addresses/src/local_addresses.rt": {"MOST_OCTETS": ("1 << 22", CHOICE)},
     "rad_addresses/src/origins.rt": {"ROWS": ("1 << 13", CHOICE), "ROW": ("8", CHOICE), "CUT": ("51", CHOICE)},
-    "rad_advice/src/escaped.rt": {"MOST_OCTETS": ("64", PROVED)},
+    "rad_advice/src/name_text.rt": {"MOST_OCTETS": ("64", PROVED)},
     "rad_advice/src/unread.rt": {"MOST_LISTED": ("20", PROVED)},
     "rad_audit/src/auditing.rt": {"READ_OCTETS": ("262_144", CHOICE), "LINES_APART": ("65_536", "ledger/auditor_spoiled_lines of_places")},
     "rad_audit/src/facts.rt": {"USER_NAME": ("1", PROVED), "ACCT_STATUS_TYPE": ("40", PROVED), "ACCT_INPUT_OCTETS": ("42", PROVED),

@@ -31,7 +31,7 @@ pub use counter_file::{
 };
 pub use counter_texts::{CounterTexts, start_texts};
 pub use left_log::LeftLog;
-pub use packet_words::{Escaped, PacketWords};
+pub use packet_words::PacketWords;
 pub use rad_metrics::{LedgerFault, LedgerState, log_ledger_fault, system_number};
 pub use reporter::{Reporter, StopFlag, report};
 pub use telemetry::Telemetry;
