@@ -63,7 +63,7 @@ NUMBERS = {
     "rad_log/src/line_queue.rt": {"ROOM": ("65_536", "faults/counters_and_log_files LOST"), "LONGEST": ("4096", CHOICE)},
     "rad_log/src/line_writer.rt": {"MOST": ("4096", CHOICE), "LOST_LINE": ("64", CHOICE)},
     "rad_log/src/locking.rt": {"TRIES": ("2000", CHOICE)},
-    "rad_metrics/src/own_process.rt": {"MOST_OCTETS": ("1 << 16", CHOICE), "UNIT": ("10", FORM)},
+    "rad_metrics/src/own_process.rt": {"UNIT": ("10", FORM)},
     "rad_metrics/src/counts.rt": {"APART": ("16", CHOICE)},
     "rad_metrics/src/histogram.rt": {"BUCKETS": ("18", PROVED)},
     "rad_metrics/src/home_times.rt": {
@@ -71,7 +71,7 @@ NUMBERS = {
         "UNTOLD": ("u64::MAX", FORM), "NUMBERS": ("1 << 24", PROVED), "TIMES": ("1 << 40", PROVED)},
     "rad_metrics/src/ledger_fault.rt": {"NUMBERS": ("1 << 32", CHOICE)},
     "rad_metrics/src/numbers.rt": {"STEP": ("1000", "ledger/disk_faults a_clock_that_is_set_moves_the_times")},
-    "rad_metrics/src/socket_numbers.rt": {"MOST_OCTETS": ("1 << 22", CHOICE)},
+    "rad_metrics/src/system_files.rt": {"MOST_OCTETS": ("1 << 22", CHOICE)},
     "rad_packet/src/datagram.rt": {"GREATEST_VALUE_LENGTH": ("253", PROVED)},
     "rad_packet/src/lib.rt": {"HEADER_LENGTH": ("20", PROVED), "GREATEST_LENGTH": ("4096", PROVED)},
     "rad_packet/src/reading.rt": {"LEAST_ATTRIBUTE_LENGTH": ("2", PROVED)},

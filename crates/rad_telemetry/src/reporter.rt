@@ -7,7 +7,7 @@ use crate::sums::Sums;
 use crate::trace_file::{TraceFile, TraceLook, TraceText};
 use crate::tracer::Tracer;
 use rad_log::{Log, wait_until_set};
-use rad_metrics::{Draft, LedgerState, Numbers, OwnProcess, UdpSockets};
+use rad_metrics::{Draft, LedgerState, Numbers, SystemFiles};
 use rad_realms::Config;
 use std::alloc::{AllocError, Global};
 use std::io;
@@ -99,7 +99,7 @@ pub fn report<R, U, L>(
 )
 where
     R: Clock + Wait,
-    U: UdpSockets + OwnProcess + TraceText,
+    U: SystemFiles + TraceText,
     L: Log,
 {
     let mut draft = Draft::new(alloc);
@@ -123,7 +123,7 @@ fn report_once<R, U, L>(
 ) -> bool
 where
     R: Clock + Wait,
-    U: UdpSockets + OwnProcess + TraceText,
+    U: SystemFiles + TraceText,
     L: Log,
 {
     let is_last = stop.is_set();
@@ -166,7 +166,7 @@ impl<L: Log, R> Reporter<'_, L, R> {
 impl<L: Log, R: Clock> Reporter<'_, L, R> {
     /// Leaves a text of all numbers to the thread that writes it to their file, if there is one. It also logs, once,
     /// why an earlier text was not written.
-    fn leave_text<S: Wait, U: UdpSockets + OwnProcess>(
+    fn leave_text<S: Wait, U: SystemFiles>(
         &self,
         rt: &S,
         system: &U,
