@@ -107,12 +107,10 @@ NUMBERS = {
     "rad_server/src/streams.rt": {"LOOK": ("20", CHOICE), "MOST": ("4096", CHOICE), "MOST_OF_TERMINAL": ("1", CHOICE)},
     "rad_tables/src/moment.rt": {"LONGEST_WAIT": ("120_000", PROVED)},
     "rad_telemetry/src/counter_file.rt": {"HEAD_OCTETS": ("17", FORM), "MODE": ("0o644", "faults/counters_and_log_files TESTS")},
-    "rad_telemetry/src/last_realm.rt": {"TRIES": ("2000", CHOICE)},
     "rad_telemetry/src/left_log.rt": {"MOST_LOGGED": ("20", f"{LEFT} names_those_of_each_home")},
     "rad_telemetry/src/trace_file.rt": {
         "MOST_LINES": ("16", "network/traced_lines TESTS"), "MOST_OCTETS": ("4096", "network/traced_lines TESTS"),
         "MOST_VALUE": ("253", FORM)},
-    "rad_telemetry/src/tracer.rt": {"TRIES": ("2000", CHOICE)},
     "rad_telemetry/src/reporter.rt": {"PERIOD": ("1000", "timing/metrics_over_time TESTS"), "ASKED": ("40", CHOICE)},
     "rad_writer/src/filling.rt": {"SIZE": ("262_144", CHOICE), "LINE": ("65_536", FORM), "LINES": ("1024", CHOICE)},
     "rad_writer/src/inlet.rt": {"LOOK": ("1", CHOICE)},
