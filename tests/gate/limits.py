@@ -112,7 +112,7 @@ NUMBERS = {
         "MOST_LINES": ("16", "network/traced_lines TESTS"), "MOST_OCTETS": ("4096", "network/traced_lines TESTS"),
         "MOST_VALUE": ("253", FORM)},
     "rad_telemetry/src/reporter.rt": {"PERIOD": ("1000", "timing/metrics_over_time TESTS"), "ASKED": ("40", CHOICE)},
-    "rad_writer/src/filling.rt": {"SIZE": ("262_144", CHOICE), "LINE": ("65_536", FORM), "LINES": ("1024", CHOICE)},
+    "rad_writer/src/filling.rt": {"SIZE": ("262_144", CHOICE), "LINES": ("1024", CHOICE)},
     "rad_writer/src/inlet.rt": {"LOOK": ("1", CHOICE)},
     "rad_writer/src/lines.rt": {"GREATEST_SERIAL": ("9_223_372_036_854_775_807", PROVED)},
     "rad_writer/src/opening.rt": {"ROOM": ("67_108_864", "ledger/written_ledgers BOUND")},
