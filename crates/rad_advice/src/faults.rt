@@ -8,9 +8,9 @@ ghost use Rattle.rad_realms.specs.Faults.{faults_in};
 ghost use Rattle.rad_advice.specs.Keys.{BeginsAtPlace};
 ghost use Rattle.rad_advice.specs.Faults.{data_at, data_text, text_at as told_text, value_text, spot_in, shown_text, entry_told, entry_of, entries_in, entries_in_text, sought as name_sought, key_sought, is_top, IsPlacedIn};
 
-use crate::escaped::Escaped;
 use crate::finding::{find_key, find_table};
 use crate::hints::hint_of;
+use crate::name_text::NameText;
 use crate::place::{AtText, Place, place_of};
 use crate::unread::member;
 use rad_realms::{ConfigFault, Key, Part, Spot, list_faults};
@@ -90,7 +90,7 @@ impl fmt::Display for Shown {
         match self {
             Shown::Nothing => Ok(()),
             Shown::Text(text) => {
-                let text = Escaped(text.as_str());
+                let text = NameText(text.as_str());
                 write!(f, ": {text}")
             }
             Shown::Number(number) => write!(f, ": {number}"),

@@ -9,14 +9,12 @@ use crate::lines::line_of;
 use crate::parcel::ParcelHead;
 use crate::run_names::RunNames;
 use ledger_files::{Batch, LedgerDisk, LineHead, RunFiles, day_of};
+use ledger_lines::MOST_LINE_OCTETS;
 use std::alloc::{AllocError, Global};
 use std::mem;
 
 /// How many octets of lines are put together.
 const SIZE: usize = 262_144;
-
-/// The most octets of a line.
-pub(crate) const LINE: usize = 65_536;
 
 /// The most lines that are put together. A line has at least 300 octets.
 const LINES: usize = 1024;
@@ -29,7 +27,7 @@ const LINES: usize = 1024;
 pub(crate) fn new_batch(alloc: Global) -> Result<Batch, AllocError>
     ensures { IfOk result (λ batch. HoldsLines batch []) }
 {
-    Batch::new(alloc, SIZE + LINE, LINES)
+    Batch::new(alloc, SIZE + MOST_LINE_OCTETS, LINES)
 }
 
 /// Replaces the lines of entries, all of which are written, by those of the next entries of one day, the one of this

@@ -6,12 +6,12 @@ use crate::counts::RunCounts;
 use crate::parcel::{ParcelHead, pack, pack_left};
 use rad_desk::{Handed, Ledger, LeftRecord};
 use rad_lane::{Counts, Outgoing};
-use rad_metrics::LedgerState;
+use rad_metrics::{LedgerState, time_since_1970};
 use rtrb::Producer;
 use std::alloc::Global;
 use std::sync::{Arc, Wait, WaitMethods};
 use std::thread;
-use std::time::{Clock, Duration, Instant, SystemTime, UNIX_EPOCH};
+use std::time::{Clock, Duration, Instant};
 
 /// How many milliseconds pass between two looks whether there is room.
 const LOOK: u64 = 1;
@@ -110,16 +110,5 @@ impl<R: Clock + Wait> LedgerInlet<'_, R> {
             },
             None => true,
         }
-    }
-}
-
-/// Returns the time, in milliseconds since 1970, if the clock can be read.
-pub(crate) fn time_since_1970<R: Clock>(clock: &R) -> Option<u64> {
-    let Ok(now) = SystemTime::now(clock) else {
-        return None;
-    };
-    match now.duration_since(UNIX_EPOCH) {
-        Ok(passed) => u64::try_from(passed.as_millis()).ok(),
-        Err(_) => None,
     }
 }

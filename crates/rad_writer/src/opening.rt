@@ -5,19 +5,20 @@ ghost use Rattle.rad_writer.specs.RunNames.{AreNamesOf};
 
 use crate::counts::RunCounts;
 use crate::entry_buffer::EntryBuffer;
-use crate::filling::{LINE, new_batch};
-use crate::inlet::{LedgerInlet, time_since_1970};
+use crate::filling::new_batch;
+use crate::inlet::LedgerInlet;
 use crate::parcel::MOST;
 use crate::run_names::RunNames;
 use crate::writer::{LedgerWriter, LineSource};
 use ledger_files::LedgerDisk;
+use ledger_lines::MOST_LINE_OCTETS;
 use rad_desk::Handed;
-use rad_log::Log;
-use rad_metrics::{LedgerFault, LedgerState, log_ledger_fault};
+use rad_log::{Log, find_path};
+use rad_metrics::{LedgerFault, LedgerState, time_since_1970};
 use rad_realms::{Config, Home};
 use rtrb::{Consumer, Producer, RingBuffer};
 use std::alloc::{AllocError, AllocGlobal, Global};
-use std::env::{self, Env, VarError};
+use std::env::Env;
 use std::random::RandomSource;
 use std::sync::{Arc, Wait};
 use std::thread::{self, Threads};
@@ -43,21 +44,11 @@ pub struct OpenedLedger<'a, R> {
 /// # Errors
 ///
 /// `AllocError` if memory is refused.
-pub fn find_folder<R, L>(rt: &R, log: &L) -> Result<Option<String>, AllocError>
-where
-    R: Env + AllocGlobal,
-    L: Log,
-{
-    match env::var(rt, LEDGER) {
-        Ok(folder) if folder.is_empty() => Ok(None),
-        Ok(folder) => Ok(Some(folder)),
-        Err(VarError::NotPresent) => Ok(None),
-        Err(VarError::OutOfMemory) => Err(AllocError),
-        Err(VarError::NotUnicode) => {
-            log_ledger_fault(log, LedgerFault::NoText);
-            Ok(None)
-        }
-    }
+pub fn find_folder<R: Env + AllocGlobal, L: Log>(
+    rt: &R,
+    log: &L,
+) -> Result<Option<String>, AllocError> {
+    find_path(rt, LEDGER, log, "ledger-fault", &LedgerFault::NoText)
 }
 
 /// Opens a ledger of a configuration in this folder, under a name that is drawn now. No file is made yet. At the end,
@@ -156,7 +147,7 @@ fn open_source(
         folder,
         names: RunNames::new(alloc, run, homes)?,
         entries: EntryBuffer::new(alloc, buffer)?,
-        room: Vec::with_capacity(alloc, LINE)?,
+        room: Vec::with_capacity(alloc, MOST_LINE_OCTETS)?,
         next: zeros(alloc, homes.len())?,
         from: zeros(alloc, homes.len())?,
         first: zeros(alloc, homes.len())?,

@@ -6,14 +6,13 @@ ghost use Rattle.ledger_files.specs.Batches.{HoldsLines};
 use crate::counts::RunCounts;
 use crate::entry_buffer::EntryBuffer;
 use crate::filling::fill;
-use crate::inlet::time_since_1970;
 use crate::lines::{begin_line, end_line};
 use crate::run_names::RunNames;
 use ledger_files::{
     Batch, DiskFault, FileDay, FileName, LedgerDisk, LineHead, OpenFile, RunFiles, date_of, day_of,
     is_next_due,
 };
-use rad_metrics::{LedgerFault, LedgerState};
+use rad_metrics::{LedgerFault, LedgerState, time_since_1970};
 use std::alloc::{AllocError, Global};
 use std::sync::{Arc, Wait};
 use std::time::{Clock, Duration, Instant};

@@ -7,7 +7,7 @@ use std::alloc::{AllocError, Global};
 /// Lines, each with its line end, in a buffer whose size never changes. A line that finds no room is dropped and
 /// counted, and so is each line after it until the buffer is cleared.
 #[derive(Drop)]
-pub struct LineRoom {
+pub struct LineBuffer {
     text: Vec<u8>,
     /// The most octets of text.
     size: usize,
@@ -15,18 +15,18 @@ pub struct LineRoom {
     ghost has_memory: { size ≤ vec_capacity text },
 }
 
-impl LineRoom {
+impl LineBuffer {
     /// Makes an empty buffer for `size` octets. It takes no more memory later.
     ///
     /// # Errors
     ///
     /// `AllocError` if memory is refused.
-    pub fn new(alloc: Global, size: usize) -> Result<LineRoom, AllocError>
+    pub fn new(alloc: Global, size: usize) -> Result<LineBuffer, AllocError>
         ensures { IfOk result (λ room. (room.text.items ≡ []) × (room.size ≡ size) × (room.dropped ≡ 0)) }
     {
         let mut text = Vec::new(alloc);
         text.reserve(size)?;
-        Ok(LineRoom {
+        Ok(LineBuffer {
             text,
             size,
             dropped: 0,
