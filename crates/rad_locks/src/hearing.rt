@@ -6,6 +6,7 @@ ghost use Rattle.rad_locks.specs.Fates.{MayFollow};
 ghost use Rattle.rad_locks.specs.Tells.{Tells};
 
 use crate::desk::Desk;
+use crate::for_proof::keep_law_of;
 use crate::numbered::Numbered;
 use rad_lane::{HearFault, Heard, Outgoing};
 use rad_tables::Moment;
@@ -95,7 +96,7 @@ impl Desk {
         }
         self.keep_law();
         let heard = self.lane.hear(alloc, moment, port, datagram);
-        let _ = self.lane.accepted();
+        keep_law_of(&self.lane);
         match heard {
             Ok(Heard::Answer(response)) => {
                 let serial = give(&mut self.giver, response);

@@ -14,11 +14,12 @@ ghost use Rattle.rad_locks.specs.Departures.{Departs, Returns, StepsHolding, Acc
 ghost use Rattle.rad_locks.specs.Found.{LeadsElsewhere, IfWrongLane, StepsLawfully, HearsFor, HearsLawfully, DrainsFor, DrainsLawfully};
 ghost use Rattle.rad_lane.specs.Setup.{IsOf};
 
-use crate::desk::{Desk, RecordQueue};
+use crate::desk::Desk;
+use crate::for_proof::step_lawfully;
 use crate::hearing::{DeskFault, Told};
 use crate::proxy::Stepped;
 use rad_auth::Secret;
-use rad_lane::{Action, Counts, HearFault, Lane, Refusal, Stamp, Taken};
+use rad_lane::{Action, Counts, HearFault, Refusal, Stamp, Taken};
 use rad_packet::Datagram;
 use rad_realms::Checked;
 use rad_tables::Moment;
@@ -202,13 +203,6 @@ impl Desk {
         self.lane.is_done()
     }
 
-    /// States the law that the lane's type guarantees, for a caller that uses it.
-    pub(crate) fn keep_law(&self)
-        ensures { IsLawful (book self.now) }
-    {
-        let _ = self.accepted();
-    }
-
     /// Returns the stamps of the requests that the book holds.
     pub(crate) fn accepted(&self) -> &[Stamp]
         ensures value { result.now ≡ (book self.now).accepted }
@@ -216,21 +210,4 @@ impl Desk {
     {
         self.lane.accepted()
     }
-}
-
-/// Does a lane's next step, and states the law before and after it.
-fn step_lawfully(
-    lane: &mut Lane<RecordQueue>,
-    moment: Moment,
-    random: [u8; 16],
-    datagram: &mut Datagram,
-) -> Action
-    ensures steps { Steps lane.old moment random result (record { before = datagram.old; after = datagram.new }) lane.new }
-    ensures another { AllotsAnother lane.old result }
-    ensures lawful { IsLawful lane.old × IsLawful lane.new }
-{
-    let _ = lane.accepted();
-    let action = lane.step(moment, random, datagram);
-    let _ = lane.accepted();
-    action
 }

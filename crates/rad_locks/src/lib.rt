@@ -16,6 +16,7 @@ mod agreeing;
 mod closing;
 mod desk;
 mod ending;
+mod for_proof;
 mod hearing;
 mod inlet;
 mod lane_calls;

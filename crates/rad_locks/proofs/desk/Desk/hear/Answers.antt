@@ -28,7 +28,7 @@ give-serial-requires-clause-next c =
     let same = c.is_full.ensures.looked.1 in
     record {
       serial = heard.2.serial ∙ heard.1.keeps.serial ∙ sym c.args.self.now.outlet.served ∙ ap length (sym same);
-      first = ap (answered_with (marked_number response.reply.sending)) same ∙ unanswered _ _ _ _ _ _ _ _ c.keep_law.ensures c.accepted.ensures.lawful heard.1 heard.2 c.args.self.now.accounted;
+      first = ap (answered_with (marked_number response.reply.sending)) same ∙ unanswered _ _ _ _ _ _ _ _ c.keep_law.ensures c.keep_law_of.ensures heard.1 heard.2 c.args.self.now.accounted;
     }
 
 pub invariant_of-self-in-Ok-Answer : goal.invariant_of-self-in-Ok-Answer
@@ -38,7 +38,7 @@ invariant_of-self-in-Ok-Answer c =
     subst (λ h. Hears c.args.self.now.lane c.args.moment c.args.port c.args.datagram.now (Ok h) c.hear-heard.new.self) c.in-Ok-Answer.field-0-is c.in-Ok-Answer.ensures in
     let given = c.give-serial.ensures.sent ∙ ap (λ g. g ++ response ∷ []) c.is_full.ensures.looked.1 in
     record {
-      accounted = subst (AccountsForAll c.hear-heard.new.self) (sym given) (accounts_by_reply _ _ _ _ _ _ _ _ c.keep_law.ensures c.accepted.ensures.lawful heard.1 heard.2 c.args.self.now.accounted);
+      accounted = subst (AccountsForAll c.hear-heard.new.self) (sym given) (accounts_by_reply _ _ _ _ _ _ _ _ c.keep_law.ensures c.keep_law_of.ensures heard.1 heard.2 c.args.self.now.accounted);
       outlet = subst (IsOutlet c.hear-heard.new.self) (sym given) (outlet_answered _ _ _ _ _ _ _ _ heard.1 heard.2 c.args.self.now.outlet);
       bounded = bounded_answered _ _ _ _ _ _ heard.1 c.args.self.now.bounded;
       numbered = numbered_answered _ _ _ _ _ _ _ heard.1 c.args.self.now.numbered;
@@ -88,7 +88,7 @@ invariant_of-self-in-Ok-ProbeAnswered c =
     let new = c.hear-heard.new.self in
     let same = same_by_probe old new (moment_in old c.args.moment) c.args.port c.args.datagram.now (heard_probe c) in
     record {
-      accounted = subst (AccountsForAll new) (sym c.is_full.ensures.looked.1) (accounts_by_probe old new _ _ _ _ c.keep_law.ensures c.accepted.ensures.lawful (heard_probe c) c.args.self.now.accounted);
+      accounted = subst (AccountsForAll new) (sym c.is_full.ensures.looked.1) (accounts_by_probe old new _ _ _ _ c.keep_law.ensures c.keep_law_of.ensures (heard_probe c) c.args.self.now.accounted);
       outlet = subst (IsOutlet new) (sym c.is_full.ensures.looked.1) (outlet_same old new _ same c.args.self.now.outlet);
       bounded = bounded_same old new same c.args.self.now.bounded;
       numbered = numbered_same old new _ same c.args.self.now.numbered;
