@@ -266,20 +266,6 @@ fn find_value(document: &Table, spot: Spot) -> Option<&Value>
     value_of(table, spot.key.name())
 }
 
-/// Returns the item of this index, if the value is an array that has it.
-fn item_of(value: &Value, index: usize) -> Option<&Value>
-    ensures { option_map (λ v. view v.now) result ≡ at index (view value.now) }
-{
-    value.get(index)
-}
-
-/// Returns the value of a key, if the value is a table that has it.
-fn value_of<'t>(value: &'t Value, key: &str) -> Option<&'t Value>
-    ensures { option_map (λ v. view v.now) result ≡ get key.now (view value.now) }
-{
-    value.get(key)
-}
-
 /// Returns the text at the key of a fault, if it is one.
 fn text_at(document: &Table, fault: ConfigFault) -> Option<&str>
     ensures { option_map (λ s. s.now) result ≡ told_text fault (table_view document.now) }
@@ -398,4 +384,18 @@ fn has_name(document: &Table, spot: Spot, index: usize, name: &str) -> bool {
         Some(other) => other == name,
         None => false,
     }
+}
+
+/// For the proof: returns the item of this index, if the value is an array that has it.
+fn item_of(value: &Value, index: usize) -> Option<&Value>
+    ensures { option_map (λ v. view v.now) result ≡ at index (view value.now) }
+{
+    value.get(index)
+}
+
+/// For the proof: returns the value of a key, if the value is a table that has it.
+fn value_of<'t>(value: &'t Value, key: &str) -> Option<&'t Value>
+    ensures { option_map (λ v. view v.now) result ≡ get key.now (view value.now) }
+{
+    value.get(key)
 }

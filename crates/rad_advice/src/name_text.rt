@@ -32,7 +32,7 @@ impl fmt::Display for NameText<'_> {
     }
 }
 
-/// Returns the octets of a long name that are printed.
+/// For the proof: returns the octets of a long name that are printed.
 fn front_of(octets: &[u8]) -> &[u8]
     requires { 64 ≤ length octets.now }
     ensures { result.now ≡ take 64 octets.now }

@@ -293,13 +293,6 @@ fn values_at<'t>(name: &str, document: &'t Table) -> &'t [Value]
     }
 }
 
-/// Finds the value of a key.
-pub(crate) fn member<'t>(name: &str, document: &'t Table) -> Option<&'t Value>
-    ensures { option_map (λ v. view v.now) result ≡ get_member name.now (table_view document.now) }
-{
-    document.get(name)
-}
-
 /// Returns the values of an array, or none for any other value.
 fn values_of(value: &Value) -> &[Value]
     ensures { items_view result.now ≡ unwrap_or (as_array (view value.now)) no_items }
@@ -354,4 +347,11 @@ fn add_unless_read<'t>(
     }
     found.push(Unread { part, index, name })?;
     Ok(())
+}
+
+/// For the proof: finds the value of a key.
+pub(crate) fn member<'t>(name: &str, document: &'t Table) -> Option<&'t Value>
+    ensures { option_map (λ v. view v.now) result ≡ get_member name.now (table_view document.now) }
+{
+    document.get(name)
 }
