@@ -63,6 +63,7 @@ NUMBERS = {
     "rad_log/src/line_queue.rt": {"ROOM": ("65_536", "faults/counters_and_log_files LOST"), "LONGEST": ("4096", CHOICE)},
     "rad_log/src/line_writer.rt": {"MOST": ("4096", CHOICE), "LOST_LINE": ("64", CHOICE)},
     "rad_log/src/locking.rt": {"TRIES": ("2000", CHOICE)},
+    "rad_log/src/writer_state.rt": {"WORK": ("1", FORM), "END": ("2", FORM)},
     "rad_metrics/src/own_process.rt": {"UNIT": ("10", FORM)},
     "rad_metrics/src/counts.rt": {"APART": ("16", CHOICE)},
     "rad_metrics/src/histogram.rt": {"BUCKETS": ("18", PROVED)},
