@@ -4,7 +4,7 @@ ghost use Rattle.std.specs.Prelude.{◌≡◌, Some};
 
 use crate::counts::RunCounts;
 use crate::parcel::{ParcelHead, pack, pack_left};
-use rad_desk::{Handed, Ledger, LeftRecord};
+use rad_desk::{Handed, Ledger, LeftRecord, Wire};
 use rad_lane::{Counts, Outgoing};
 use rad_metrics::{LedgerState, time_since_1970};
 use rtrb::Producer;
@@ -51,7 +51,7 @@ impl<R: Clock + Wait> Ledger for LedgerInlet<'_, R> {
         self.state.begin();
     }
 
-    fn keep(&mut self, outgoing: &Outgoing) {
+    fn keep<W: Wire>(&mut self, outgoing: &Outgoing, wire: &W) {
         let time = self.read_time();
         let head = ParcelHead::of(time, outgoing);
         self.counts.took(head.lane, head.serial);
@@ -67,7 +67,7 @@ impl<R: Clock + Wait> Ledger for LedgerInlet<'_, R> {
         } else {
             self.state.count_dropped();
         }
-        self.handed.add(outgoing);
+        self.handed.add(outgoing, wire);
     }
 
     fn leave(&mut self, told: &LeftRecord<'_>) {
