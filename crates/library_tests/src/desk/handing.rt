@@ -27,7 +27,7 @@ enum Made {
 }
 
 /// The calls of two turns, in order.
-const CALLS: [Made; 4] = [Made::Kept(0), Made::Sent(0), Made::Kept(1), Made::Sent(1)];
+const IN_ORDER: [Made; 4] = [Made::Kept(0), Made::Sent(0), Made::Kept(1), Made::Sent(1)];
 
 /// How many of the calls were made, or nothing once another one was made.
 #[derive(Drop)]
@@ -40,7 +40,7 @@ impl Calls {
         let Some(place) = self.place.get() else {
             return;
         };
-        let is_next = match CALLS.get(place) {
+        let is_next = match IN_ORDER.get(place) {
             Some(expected) => *expected == made,
             None => false,
         };
@@ -48,7 +48,7 @@ impl Calls {
     }
 
     fn is_whole(&self) -> bool {
-        self.place.get() == Some(CALLS.len())
+        self.place.get() == Some(IN_ORDER.len())
     }
 }
 
@@ -94,9 +94,9 @@ impl Ledger for ListedLedger<'_> {
 
 /// A gate that lets every worker go on.
 #[derive(Drop)]
-struct Open;
+struct Willing;
 
-impl Gate for Open {
+impl Gate for Willing {
     fn before(&self, _worker: Worker, _call: Call) -> Go {
         Go::On
     }
@@ -124,7 +124,7 @@ fn hands_over(
         inlets,
         &mut wire,
         &mut ledger,
-        &Open,
+        &Willing,
         2,
     );
     calls.is_whole()

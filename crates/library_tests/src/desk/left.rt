@@ -5,7 +5,7 @@ use crate::configured::configured;
 use crate::desk::making::{reply_to, request};
 use crate::desk::setting::{CLIENT, TEXT, start};
 use crate::desk::threads::close;
-use rad_desk::{Ledger, LeftRecord, LeftState, Proxy, Wire, open, tell_left};
+use rad_desk::{Inlet, Ledger, LeftRecord, LeftState, Proxy, Wire, open, tell_left};
 use rad_lane::{Action, Counts, Outgoing, Taken};
 use rad_packet::Datagram;
 use rad_realms::{Config, Incoming, check_in};
