@@ -1,8 +1,9 @@
 -- Where the lines of a batch end.
-use Rattle.std.proofs.Common.{◌≡◌, ℕ, ◌+◌, ◌<◌, ◌≤◌, List, [], ◌∷◌, ◌++◌, length, take, get_or, sym, ap, ◌∙◌, ⊎_elim, append-nil, arith, length-append}
-use Rattle.std.specs.List.{concat}
-use Rattle.std.proofs.Math.Seq.{get_or-append_seam}
-use Rattle.std.proofs.lemmas.List.{get_or_append_left, take-append-le, take_all}
+use Rattle.std.proofs.Common.{◌≡◌, ℕ, ◌+◌, ◌-◌, ◌<◌, ◌≤◌, min, List, [], ◌∷◌, ◌++◌, length, take, drop, get_or, sym, ap, ◌∙◌, ⊎_elim, append-nil, append_assoc, add-one, arith, length-append}
+use Rattle.std.specs.List.{concat, slice_range}
+use Rattle.std.proofs.Math.Nat.{min-eq_left}
+use Rattle.std.proofs.Math.Seq.{drop-append_seam, get_or-append_seam, take-append_seam, take-suc}
+use Rattle.std.proofs.lemmas.List.{get_or_append_left, take-append-drop, take-append-le, take_all}
 use Rattle.std.proofs.lemmas.List.Folds.{concat-append}
 use Rattle.ledger_files.specs.declared.batch.Batch.{Batch}
 use Rattle.ledger_files.specs.Batches.{HoldsLines}
@@ -70,3 +71,28 @@ holds_passed old new lines h eo ee l ew es = record {
   some = omega (arith, h.count);
   start = es ∙ h.ends old.whole (omega (arith, h.count)) ∙ ap (λ n. length (concat (take n lines))) (sym ew);
 }
+
+-- The octets of the next line, from where it begins to where it ends.
+pub line_at : (batch : Batch) (held : List (List ℕ)) (octets : List ℕ) (from end : ℕ) → HoldsLines batch held → batch.whole < length batch.ends.items
+    → octets ≡ batch.octets.items → from ≡ min batch.start end → end ≡ get_or batch.ends.items batch.whole 0 → slice_range octets from end ≡ get_or held batch.whole []
+line_at batch held octets from end h some o m e =
+    let k : ℕ = batch.whole in
+    let line : List ℕ = get_or held k [] in
+    let low : k < length held = omega (arith, h.count) in
+    let lines : take (k + 1) held ≡ take k held ++ line ∷ [] = rw add-one (take-suc held k [] low) in
+    let a : List ℕ = concat (take k held) in
+    let b : List ℕ = concat (drop (k + 1) held) in
+    let front : concat (take (k + 1) held) ≡ a ++ line =
+    ap concat lines ∙ concat-append (take k held) (line ∷ []) ∙ ap (λ (x : List ℕ). a ++ x) (append-nil line) in
+    let end_is : end ≡ length a + length line = e ∙ h.ends k low ∙ ap length front ∙ length-append a line in
+    let below : batch.start ≤ end = omega (arith, h.start, end_is) in
+    let from_is : from ≡ length a = m ∙ min-eq_left below ∙ h.start in
+    let its : octets ≡ a ++ (line ++ b) =
+    o ∙ h.octets ∙ ap concat (sym (take-append-drop (k + 1) held)) ∙ concat-append (take (k + 1) held) (drop (k + 1) held)
+    ∙ ap (λ (x : List ℕ). x ++ b) front ∙ append_assoc a line b in
+    let count : end - from ≡ length line = omega (arith, end_is, from_is) in
+    ap (λ (x : List ℕ). take (end - from) (drop from x)) its
+    ∙ ap (λ (n : ℕ). take (end - from) (drop n (a ++ (line ++ b)))) from_is
+    ∙ ap (take (end - from)) (drop-append_seam a (line ++ b))
+    ∙ ap (λ (n : ℕ). take n (line ++ b)) count
+    ∙ take-append_seam line b

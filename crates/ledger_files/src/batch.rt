@@ -2,6 +2,7 @@
 
 ghost use Rattle.std.specs.Prelude.{◌≡◌, ◌≤◌, vec_len};
 
+use crate::chain::Chain;
 use crate::disk::{DiskFault, LedgerDisk};
 use crate::pending::write_rest;
 use std::alloc::{AllocError, Global};
@@ -34,8 +35,9 @@ pub struct Batch {
 }
 
 impl Batch {
-    ghost use Rattle.std.specs.Prelude.{◌≡◌, ◌↔◌, ◌+◌, ◌-◌, ◌≤◌, ◌<◌, ℕ, List, [], ◌∷◌, ◌++◌, vec_len, slice_index, slice_range, IsOk, IsTrue, IfOk, OnOk, MatchResult, MatchOption};
+    ghost use Rattle.std.specs.Prelude.{◌≡◌, ◌↔◌, ◌+◌, ◌-◌, ◌≤◌, ◌<◌, ℕ, List, [], ◌∷◌, ◌++◌, vec_len, slice_index, slice_index_or, slice_range, IsOk, IsTrue, IfOk, OnOk, MatchResult, MatchOption};
     ghost use Rattle.ledger_files.specs.Batches.{HoldsLines, IsHeadOf};
+    ghost use Rattle.ledger_files.specs.Chains.{chain_of};
     ghost use Rattle.ledger_files.specs.Files.{wrote};
 
     /// Makes an empty batch, with room for so many octets and lines.
@@ -144,13 +146,15 @@ impl Batch {
         outcome
     }
 
-    /// Counts the next line as written whole, if it is, and returns what it is of.
+    /// Passes the next line as written whole, if it is, and returns what it is of. It is then the next one of the chain.
     #[tactic(auto, using(crate::proofs::Ends::holds_same, crate::proofs::Ends::holds_passed))]
-    pub fn pass_line(&mut self) -> Option<LineHead>
+    pub fn pass_line(&mut self, chain: &mut Chain) -> Option<LineHead>
         ensures lines { (lines : List (List ℕ)) → HoldsLines self.old lines → HoldsLines self.new lines }
         ensures same { (self.new.done ≡ self.old.done) × (self.new.octets ≡ self.old.octets) × (self.new.heads ≡ self.old.heads) × (self.new.ends ≡ self.old.ends) }
         ensures passed { MatchOption result (self.new.whole ≡ self.old.whole) (λ head. (self.new.whole ≡ self.old.whole + 1) × IsHeadOf self.old head × (slice_index self.old.ends.items self.old.whole ≤ self.old.done)) }
         ensures rest { MatchOption result (self.old.whole < vec_len self.old.ends → self.old.done < slice_index self.old.ends.items self.old.whole) (λ _. Unit {0}) }
+        ensures none { MatchOption result (chain.new ≡ chain.old) (λ _. Unit {0}) }
+        ensures chain { MatchOption result (Unit {0}) (λ _. (held : List (List ℕ)) → HoldsLines self.old held → (lines : List (List ℕ)) → chain.old.sum ≡ chain_of lines → chain.new.sum ≡ chain_of (lines ++ slice_index_or held self.old.whole [] ∷ [])) }
     {
         if self.whole == self.ends.len() {
             return None;
@@ -160,6 +164,7 @@ impl Batch {
             return None;
         }
         let head = self.heads[self.whole];
+        chain.add(&self.octets[self.start.min(end)..end]);
         self.start = end;
         self.whole += 1;
         Some(head)
