@@ -6,7 +6,7 @@ use rad_telemetry::{ReplaceFile, RuntimeFiles, TraceFault, TraceText, read_trace
 use rad_writer::{LedgerDisk, RuntimeDisk};
 use std::alloc::{AllocGlobal, Global};
 use std::fs::{Files, OpenFile};
-use std::io::{self, Write};
+use std::io::{self, Read, Write};
 use std::random::RandomSource;
 use std::rt::Runtime;
 use std::sync::Wait;
@@ -58,7 +58,7 @@ impl<R> RuntimeMachine<R> {
 impl<R, F> Machine for RuntimeMachine<R>
 where
     R: Files<File = F> + AllocGlobal + RandomSource + Sync + Copy + Send + 'static,
-    F: Write + OpenFile + Drop + Send + 'static,
+    F: Read + Write + OpenFile + Drop + Send + 'static,
 {
     type Files = RuntimeFiles<R>;
 

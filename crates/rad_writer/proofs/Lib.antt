@@ -1,1 +1,2 @@
 mod Parcels
+mod Passing

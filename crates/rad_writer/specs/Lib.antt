@@ -1,3 +1,5 @@
+pub mod Buffer
 pub mod Entries
+pub mod Fills
 pub mod Parcels
 pub mod RunNames

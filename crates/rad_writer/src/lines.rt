@@ -1,17 +1,15 @@
 //! The lines of a ledger, made of what passed through the buffer.
 
-ghost use Rattle.std.specs.Prelude.{◌≡◌, ◌<◌, ◌^◌, IfOk, MatchOption, option_copied, slice_get};
+ghost use Rattle.std.specs.Prelude.{◌≡◌, ◌<◌, ◌^◌, IfOk, MatchOption, option_copied, option_map, slice_get, string_bytes};
 ghost use Rattle.ledger_lines.specs.Written.{HasLineBehind};
-ghost use Rattle.rad_desk.specs.declared.leaving.LeftState.{LeftState as TheState};
-ghost use Rattle.rad_writer.specs.Entries.{IsEntryOf, IsLeftOf, sendings_in, state_in};
+ghost use Rattle.rad_writer.specs.Entries.{HasEntryBehind, HasLeftBehind, HasParcelBehind, IsEntryOf, IsLeftOf, IsMomentIfAny, IsMomentText, Tells, state_in};
 
 use crate::counts::RunCounts;
-use crate::entry_buffer::Parcel;
-use crate::parcel::{ParcelHead, UNKNOWN_SENDINGS, UNKNOWN_TIME};
+use crate::parcel::{Fate, Origin, Parcel, ParcelHead};
 use crate::run_names::RunNames;
-use ledger_files::UtcTime;
+use ledger_files::{FoundFile, SUM_OCTETS, UtcTime};
 use ledger_lines::{
-    Begin, End, LaneCount, LaneStart, write_begin, write_end, write_entry, write_left,
+    Begin, End, FileBefore, LaneCount, LaneStart, write_begin, write_end, write_entry, write_left,
 };
 use rad_desk::{LeftState, status_of, user_of};
 use rad_lane::session_of;
@@ -35,7 +33,29 @@ pub(crate) fn line_of(
     parcel: &Parcel<'_>,
     out: Vec<u8>,
 ) -> Result<Vec<u8>, AllocError>
-    ensures { IfOk result (λ all. HasLineBehind out.items all.items) }
+    ensures line { IfOk result (λ all. HasLineBehind out.items all.items) }
+    ensures value { IfOk result (λ all. HasParcelBehind names.now parcel.now out.items all.items) }
+{
+    match parcel.head.its {
+        Origin::Response { serial, .. } => entry_line(alloc, names, parcel, serial, out),
+        Origin::Left { fate, .. } => left_line(alloc, names, parcel, fate, out),
+    }
+}
+
+/// Writes the line of the parcel of the response of this serial behind what these octets are.
+///
+/// # Errors
+///
+/// `AllocError` if memory is refused.
+fn entry_line(
+    alloc: Global,
+    names: &RunNames,
+    parcel: &Parcel<'_>,
+    serial: u64,
+    out: Vec<u8>,
+) -> Result<Vec<u8>, AllocError>
+    ensures line { IfOk result (λ all. HasLineBehind out.items all.items) }
+    ensures value { IfOk result (λ all. HasEntryBehind names.now parcel.now serial out.items all.items) }
 {
     let Parcel {
         head,
@@ -43,16 +63,12 @@ pub(crate) fn line_of(
         reply,
         response,
     } = *parcel;
-    if let Some(state) = head.state() {
-        return left_line(alloc, names, head, state, sent, out);
-    }
     let time = time_text(alloc, head.time)?;
-    let entry = entry_of(names, head, sent, reply, response, time.as_str());
+    let entry = entry_of(names, head, serial, sent, reply, response, time.as_str());
     write_entry(alloc, &entry, out)
 }
 
-/// Writes the line of a request that is left in this state, by the head of its parcel and its packet, behind what these
-/// octets are.
+/// Writes the line of the parcel of a request that is left behind what these octets are.
 ///
 /// # Errors
 ///
@@ -60,21 +76,35 @@ pub(crate) fn line_of(
 fn left_line(
     alloc: Global,
     names: &RunNames,
-    head: ParcelHead,
-    state: LeftState,
-    request: &[u8],
+    parcel: &Parcel<'_>,
+    fate: Fate,
     out: Vec<u8>,
 ) -> Result<Vec<u8>, AllocError>
-    ensures { IfOk result (λ all. HasLineBehind out.items all.items) }
+    ensures line { IfOk result (λ all. HasLineBehind out.items all.items) }
+    ensures value { IfOk result (λ all. HasLeftBehind names.now parcel.now fate out.items all.items) }
 {
+    let head = parcel.head;
     let time = time_text(alloc, head.time)?;
-    let accepted = accepted_text(alloc, head.accepted)?;
-    let accepted = match &accepted {
+    let accepted = accepted_text(alloc, fate.accepted)?;
+    let left = left_of(
+        names,
+        head,
+        fate,
+        parcel.sent,
+        time.as_str(),
+        lent(&accepted),
+    );
+    write_left(alloc, &left, out)
+}
+
+/// Returns the same text, which is lent.
+fn lent(text: &Option<String>) -> Option<&str>
+    ensures { option_copied result ≡ option_map string_bytes text.now }
+{
+    match text {
         Some(text) => Some(text.as_str()),
         None => None,
-    };
-    let left = left_of(names, head, state, request, time.as_str(), accepted);
-    write_left(alloc, &left, out)
+    }
 }
 
 /// Returns when a request was accepted, as a line has it, if it is known.
@@ -82,23 +112,25 @@ fn left_line(
 /// # Errors
 ///
 /// `AllocError` if memory is refused.
-fn accepted_text(alloc: Global, time: u64) -> Result<Option<String>, AllocError> {
-    if time == UNKNOWN_TIME {
-        return Ok(None);
+fn accepted_text(alloc: Global, time: Option<u64>) -> Result<Option<String>, AllocError>
+    ensures { IfOk result (λ text. IsMomentIfAny time (option_map string_bytes text)) }
+{
+    match time {
+        Some(time) => Ok(Some(time_text(alloc, time)?)),
+        None => Ok(None),
     }
-    Ok(Some(time_text(alloc, time)?))
 }
 
-/// Returns the request that is left in this state that a parcel's head and packet are, with these texts for its times.
+/// Returns the request that is left that a parcel's head and packet are, with these texts for its times.
 fn left_of<'a>(
     names: &'a RunNames,
     head: ParcelHead,
-    state: LeftState,
+    fate: Fate,
     request: &'a [u8],
     time: &'a str,
     accepted: Option<&'a str>,
 ) -> Left<'a>
-    ensures { IsLeftOf names.now head state request.now time.now (option_copied accepted.entry) result }
+    ensures { IsLeftOf names.now head fate request.now time.now (option_copied accepted.entry) result }
 {
     let told = told_in(request);
     let home = names.home(head.lane);
@@ -119,8 +151,8 @@ fn left_of<'a>(
         session: told.session,
         status: told.status,
         user: told.user,
-        state: state_of(state),
-        sendings: sendings_of(head),
+        state: state_of(fate.state),
+        sendings: fate.sendings,
         accepted,
         request,
     }
@@ -137,37 +169,29 @@ fn state_of(state: LeftState) -> rad_ledger::LeftState
     }
 }
 
-/// Returns how often a request that is left was sent, if its head knows it.
-fn sendings_of(head: ParcelHead) -> Option<u32>
-    ensures { result ≡ sendings_in head.sendings }
-{
-    if head.sendings == UNKNOWN_SENDINGS {
-        None
-    } else {
-        Some(u32::from(head.sendings))
-    }
-}
-
 /// Returns a time in milliseconds since 1970, as a line has it.
 ///
 /// # Errors
 ///
 /// `AllocError` if memory is refused.
-fn time_text(alloc: Global, time: u64) -> Result<String, AllocError> {
-    let time = UtcTime::of(time);
-    format!(in alloc; "{time}")
+fn time_text(alloc: Global, time: u64) -> Result<String, AllocError>
+    ensures { IfOk result (λ text. IsMomentText time (string_bytes text)) }
+{
+    let moment = UtcTime::of(time);
+    format!(in alloc; "{moment}")
 }
 
-/// Returns the entry that a parcel's head and packets are, with this text for its time.
+/// Returns the entry of this serial that a parcel's head and packets are, with this text for its time.
 fn entry_of<'a>(
     names: &'a RunNames,
     head: ParcelHead,
+    serial: u64,
     sent: &'a [u8],
     reply: &'a [u8],
     response: &'a [u8],
     time: &'a str,
 ) -> Entry<'a>
-    ensures { IsEntryOf names.now head sent.now reply.now response.now time.now result }
+    ensures { IsEntryOf names.now head serial sent.now reply.now response.now time.now result }
 {
     let told = told_in(sent);
     let client = head.client;
@@ -177,7 +201,7 @@ fn entry_of<'a>(
         time,
         home: names.home(head.lane),
         lane: head.lane,
-        serial: head.serial,
+        serial,
         number: head.number,
         client,
         port: head.port,
@@ -203,8 +227,10 @@ struct Told<'a> {
 }
 
 /// Returns what the packet of these octets tells, or nothing if they are no packet.
-fn told_in(sent: &[u8]) -> Told<'_> {
-    match read(sent) {
+fn told_in(request: &[u8]) -> Told<'_>
+    ensures { Tells request.now (option_copied result.realm) (option_copied result.session) result.status (option_copied result.user) }
+{
+    match read(request) {
         Ok(packet) => Told {
             realm: realm_of_packet(&packet),
             session: session_of(&packet),
@@ -220,8 +246,19 @@ fn told_in(sent: &[u8]) -> Told<'_> {
     }
 }
 
-/// Writes the line that begins a file of this number behind what these octets are. The next entry of each lane has the
-/// serial that is in `next` at its place.
+/// What the line that begins a file says besides its run and its lanes.
+#[derive(Clone, Copy)]
+pub(crate) struct FileStart<'a> {
+    /// The number of the file.
+    pub(crate) file: u64,
+    /// The sum of the lines before it.
+    pub(crate) sum: [u8; SUM_OCTETS],
+    /// The file of another run that was written last, if there is one and this is the first file.
+    pub(crate) before: Option<&'a FoundFile>,
+}
+
+/// Writes the line that begins a file behind what these octets are. The next entry of each lane has the serial that is in
+/// `next` at its place.
 ///
 /// # Errors
 ///
@@ -230,7 +267,7 @@ pub(crate) fn begin_line(
     alloc: Global,
     names: &RunNames,
     time: u64,
-    file: u64,
+    start: FileStart<'_>,
     next: &[u64],
     out: Vec<u8>,
 ) -> Result<Vec<u8>, AllocError>
@@ -238,14 +275,28 @@ pub(crate) fn begin_line(
 {
     let time = time_text(alloc, time)?;
     let lanes = lane_starts(alloc, names, next)?;
+    let sum = start.sum;
     let begin = Begin {
         run: names.run,
         time: time.as_str(),
         version: VERSION,
-        file,
+        file: start.file,
+        sum: Some(sum),
+        before: file_before(start.before),
         lanes,
     };
     write_begin(alloc, &begin, out)
+}
+
+/// Returns a file that was found, as a line names it.
+fn file_before(found: Option<&FoundFile>) -> Option<FileBefore<'_>> {
+    let found = found?;
+    let sha256 = found.sha256;
+    Some(FileBefore {
+        name: found.name.as_str(),
+        octets: found.octets,
+        sha256,
+    })
 }
 
 /// Returns the run's lanes, each with the serial of its next entry.
@@ -307,7 +358,7 @@ fn serial_at(next: &[u64], lane: usize) -> u64
     }
 }
 
-/// Writes the line that ends the run behind what these octets are.
+/// Writes the line that ends the run behind what these octets are. This is the sum of the lines before it.
 ///
 /// # Errors
 ///
@@ -316,6 +367,7 @@ pub(crate) fn end_line(
     alloc: Global,
     names: &RunNames,
     time: u64,
+    sum: [u8; SUM_OCTETS],
     counts: &RunCounts,
     out: Vec<u8>,
 ) -> Result<Vec<u8>, AllocError>
@@ -326,6 +378,7 @@ pub(crate) fn end_line(
     let end = End {
         run: names.run,
         time: time.as_str(),
+        sum: Some(sum),
         lanes,
     };
     write_end(alloc, &end, out)

@@ -1,24 +1,25 @@
 //! Opening a ledger: the buffer, and the thread that writes what passes through it.
 
 ghost use Rattle.std.specs.Prelude.{◌≡◌, [], length, vec_len, IfOk};
+ghost use Rattle.rad_writer.specs.Buffer.{HasRoom};
 ghost use Rattle.rad_writer.specs.RunNames.{AreNamesOf};
 
 use crate::counts::RunCounts;
 use crate::entry_buffer::EntryBuffer;
 use crate::filling::new_batch;
+use crate::giving::ParcelGiver;
 use crate::inlet::LedgerInlet;
-use crate::parcel::MOST;
 use crate::run_names::RunNames;
 use crate::writer::{LedgerWriter, LineSource};
 use ledger_files::LedgerDisk;
 use ledger_lines::MOST_LINE_OCTETS;
 use rad_desk::Handed;
-use rad_log::{Log, find_path};
-use rad_metrics::{LedgerFault, LedgerState, time_since_1970};
+use rad_log::Log;
+use rad_metrics::{LedgerFault, LedgerState, log_ledger_fault, time_since_1970};
 use rad_realms::{Config, Home};
-use rtrb::{Consumer, Producer, RingBuffer};
+use rtrb::RingBuffer;
 use std::alloc::{AllocError, AllocGlobal, Global};
-use std::env::Env;
+use std::env::{self, Env, VarError};
 use std::random::RandomSource;
 use std::sync::{Arc, Wait};
 use std::thread::{self, Threads};
@@ -27,8 +28,11 @@ use std::time::{Clock, Duration};
 /// The environment variable that names the folder of the ledger.
 const LEDGER: &str = "RAD_PROXY_LEDGER";
 
-/// How many octets of entries may wait in the buffer.
+/// How many octets of packets may wait in the buffer.
 const ROOM: usize = 67_108_864;
+
+/// How many entries may wait in the buffer.
+const PLACES: usize = 180_000;
 
 /// A ledger that is open: the front's end, the writer's end, and what they and the reporter share.
 #[derive(Drop)]
@@ -44,11 +48,21 @@ pub struct OpenedLedger<'a, R> {
 /// # Errors
 ///
 /// `AllocError` if memory is refused.
-pub fn find_folder<R: Env + AllocGlobal, L: Log>(
-    rt: &R,
-    log: &L,
-) -> Result<Option<String>, AllocError> {
-    find_path(rt, LEDGER, log, "ledger-fault", &LedgerFault::NoText)
+pub fn find_folder<R, L>(rt: &R, log: &L) -> Result<Option<String>, AllocError>
+where
+    R: Env + AllocGlobal,
+    L: Log,
+{
+    match env::var(rt, LEDGER) {
+        Ok(folder) if folder.is_empty() => Ok(None),
+        Ok(folder) => Ok(Some(folder)),
+        Err(VarError::NotPresent) => Ok(None),
+        Err(VarError::OutOfMemory) => Err(AllocError),
+        Err(VarError::NotUnicode) => {
+            log_ledger_fault(log, LedgerFault::NoText);
+            Ok(None)
+        }
+    }
 }
 
 /// Opens a ledger of a configuration in this folder, under a name that is drawn now. No file is made yet. At the end,
@@ -65,6 +79,7 @@ pub fn open_ledger<'a, R: Clock + RandomSource>(
     longest: Duration,
 ) -> Result<OpenedLedger<'a, R>, AllocError>
     ensures kept { IfOk result (λ opened. opened.inlet.handed.responses ≡ []) }
+    ensures room { IfOk result (λ opened. HasRoom 67108864 180000 opened.inlet.giver) }
     ensures folder { IfOk result (λ opened. opened.writer.source.folder ≡ folder) }
     ensures names { IfOk result (λ opened. AreNamesOf config.now.homes opened.writer.source.names.homes.items) }
     ensures lanes { IfOk result (λ opened. vec_len opened.writer.source.next ≡ length config.now.homes) }
@@ -74,14 +89,14 @@ pub fn open_ledger<'a, R: Clock + RandomSource>(
         counts: Arc::new(alloc, RunCounts::new(alloc, lanes)?)?,
         state: Arc::new(alloc, LedgerState::new(alloc, lanes)?)?,
     };
-    let (producer, consumer) = RingBuffer::new(alloc, ROOM)?;
-    let inlet = open_inlet(rt, alloc, producer, &shared, longest)?;
+    let (giver, entries) = open_buffer(alloc)?;
+    let inlet = open_inlet(rt, giver, &shared, longest)?;
     let source = open_source(
         alloc,
         draw_name(rt),
         folder,
         config.homes(),
-        consumer,
+        entries,
         &shared,
     )?;
     let batch = new_batch(alloc)?;
@@ -100,26 +115,39 @@ struct Shared {
     state: Arc<LedgerState>,
 }
 
-/// Makes the front's end over this end of the buffer.
+/// Makes the two ends of the buffer: of a ring of packets, and of a ring of their heads.
+///
+/// # Errors
+///
+/// `AllocError` if memory is refused.
+fn open_buffer(alloc: Global) -> Result<(ParcelGiver, EntryBuffer), AllocError>
+    ensures { IfOk result (λ ends. HasRoom 67108864 180000 ends.0) }
+{
+    let (packets, taken_packets) = RingBuffer::new(alloc, ROOM)?;
+    let (heads, taken_heads) = RingBuffer::new(alloc, PLACES)?;
+    let entries = EntryBuffer::new(alloc, taken_packets, taken_heads)?;
+    Ok((ParcelGiver::new(packets, heads), entries))
+}
+
+/// Makes what the front puts into this end of the buffer.
 ///
 /// # Errors
 ///
 /// `AllocError` if memory is refused.
 fn open_inlet<'a, R: Clock>(
     rt: &'a R,
-    alloc: Global,
-    buffer: Producer<u8, Global>,
+    giver: ParcelGiver,
     shared: &Shared,
     longest: Duration,
 ) -> Result<LedgerInlet<'a, R>, AllocError>
-    ensures { IfOk result (λ inlet. inlet.handed.responses ≡ []) }
+    ensures kept { IfOk result (λ inlet. inlet.handed.responses ≡ []) }
+    ensures giver { IfOk result (λ inlet. inlet.giver ≡ giver) }
 {
     Ok(LedgerInlet {
         clock: rt,
         longest,
         time: 0,
-        parcel: Vec::with_capacity(alloc, MOST)?,
-        buffer,
+        giver,
         counts: Arc::try_clone(&shared.counts)?,
         state: Arc::try_clone(&shared.state)?,
         handed: Handed::new(),
@@ -136,7 +164,7 @@ fn open_source(
     run: u64,
     folder: String,
     homes: &[Home],
-    buffer: Consumer<u8, Global>,
+    entries: EntryBuffer,
     shared: &Shared,
 ) -> Result<LineSource, AllocError>
     ensures folder { IfOk result (λ source. source.folder ≡ folder) }
@@ -146,7 +174,7 @@ fn open_source(
     Ok(LineSource {
         folder,
         names: RunNames::new(alloc, run, homes)?,
-        entries: EntryBuffer::new(alloc, buffer)?,
+        entries,
         room: Vec::with_capacity(alloc, MOST_LINE_OCTETS)?,
         next: zeros(alloc, homes.len())?,
         from: zeros(alloc, homes.len())?,

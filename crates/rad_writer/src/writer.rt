@@ -1,18 +1,18 @@
 //! The thread that writes the entries to files.
 
-ghost use Rattle.std.specs.Prelude.{◌≡◌, [], vec_len};
+ghost use Rattle.std.specs.Prelude.{◌≡◌, ◌≤◌, ◌+◌, [], ◌∷◌, slice_range, vec_len};
+ghost use Rattle.std.specs.Int.{from_be_bytes, w64};
 ghost use Rattle.ledger_files.specs.Batches.{HoldsLines};
 
 use crate::counts::RunCounts;
 use crate::entry_buffer::EntryBuffer;
-use crate::filling::fill;
-use crate::lines::{begin_line, end_line};
+use crate::lines::{FileStart, begin_line, end_line};
 use crate::run_names::RunNames;
 use ledger_files::{
-    Batch, DiskFault, FileDay, FileName, LedgerDisk, LineHead, OpenFile, RunFiles, date_of, day_of,
-    is_next_due,
+    Batch, DiskFault, FileDay, FileName, FoundFile, LedgerDisk, LineHead, OpenFile, RunFiles,
+    SUM_OCTETS, date_of, day_of, is_next_due,
 };
-use rad_metrics::{LedgerFault, LedgerState, time_since_1970};
+use rad_metrics::{FileSum, LedgerFault, LedgerState, time_since_1970};
 use std::alloc::{AllocError, Global};
 use std::sync::{Arc, Wait};
 use std::time::{Clock, Duration, Instant};
@@ -29,6 +29,9 @@ const SYNC: u64 = 900;
 
 /// How many milliseconds pass at least between two files that are begun since the one before can't be synced.
 const ANEW: u64 = 60_000;
+
+/// How many milliseconds after the sum was told it is told again.
+const TOLD: u64 = 3_600_000;
 
 /// What the thread that writes a ledger has, before it is started.
 #[derive(Drop)]
@@ -81,6 +84,12 @@ struct Session<'a, R, D: Drop> {
     is_unsynced: bool,
     /// When a file was begun last since the one before could not be synced.
     anew: Option<Instant>,
+    /// How many entries were written.
+    entries: u64,
+    /// The file of another run that was written last, as the first file names it.
+    before: Option<FoundFile>,
+    /// When the sum was told last.
+    told: Option<Instant>,
     /// When the thread began, if the clock could be read.
     began: Option<Instant>,
 }
@@ -103,12 +112,16 @@ impl LedgerWriter {
             sync_fault: None,
             is_unsynced: false,
             anew: None,
+            entries: 0,
+            before: None,
+            told: None,
             began,
         };
         for _ in rt.forever() {
             let is_last = session.source.state.begin_round();
             session.do_round(is_last);
             if is_last && !session.is_failing {
+                session.tell_sum();
                 session.source.state.finish();
                 return;
             }
@@ -119,30 +132,6 @@ impl LedgerWriter {
 }
 
 impl LineSource {
-    /// Makes lines of the next entries, as [`fill`] does.
-    ///
-    /// # Errors
-    ///
-    /// `AllocError` if memory is refused.
-    fn fill<D: LedgerDisk + Drop>(
-        &mut self,
-        files: &mut RunFiles<D>,
-        alloc: Global,
-        day: u64,
-    ) -> Result<(), AllocError>
-        requires written { files.old.batch.whole ≡ vec_len files.old.batch.ends }
-        requires goes_on { vec_len files.old.last.octets ≡ 0 }
-    {
-        fill(
-            files,
-            &mut self.room,
-            alloc,
-            &self.names,
-            &mut self.entries,
-            day,
-        )
-    }
-
     /// Counts an entry of this lane and serial as written to the file that is open.
     fn pass(&mut self, lane: u16, serial: u64) {
         self.state.write(lane, serial);
@@ -242,9 +231,9 @@ impl<R: Clock, D: LedgerDisk + Drop> Session<'_, R, D> {
             return Ok(());
         }
         for _ in 0..u64::MAX {
-            self.fill()?;
+            self.make_lines()?;
             self.have_file()?;
-            let is_done = self.files.batch().is_done();
+            let is_done = self.files.batch().is_done() && self.files.is_begun();
             if is_done && is_last {
                 self.make_last_line()?;
             }
@@ -256,6 +245,9 @@ impl<R: Clock, D: LedgerDisk + Drop> Session<'_, R, D> {
             }
             outcome?;
             if is_done {
+                if self.told.is_some() && self.is_past(self.told, TOLD) {
+                    self.tell_sum();
+                }
                 return match self.sync_fault {
                     Some(fault) => Err(fault),
                     None => Ok(()),
@@ -266,7 +258,7 @@ impl<R: Clock, D: LedgerDisk + Drop> Session<'_, R, D> {
     }
 
     /// Makes lines of the next entries, if all lines before them are written.
-    fn fill(&mut self) -> Result<(), LedgerFault> {
+    fn make_lines(&mut self) -> Result<(), LedgerFault> {
         if self.files.batch().is_done() && !self.files.is_ended() {
             let alloc = self.alloc;
             let day = self.file.day;
@@ -351,6 +343,7 @@ impl<R: Clock, D: LedgerDisk + Drop> Session<'_, R, D> {
     /// Begins the next file, for entries of this day. The line of an entry that was not written whole is written to it from
     /// its start. If the file before is no longer at its path, its entries are lost.
     fn begin_file(&mut self, day: u64) -> Result<(), LedgerFault> {
+        self.find_before();
         let now = self.read_time();
         let disk = self.files.disk();
         let is_gone = disk.is_open() && disk.check_place().is_err();
@@ -360,11 +353,40 @@ impl<R: Clock, D: LedgerDisk + Drop> Session<'_, R, D> {
         let Ok(line) = self.first_line(now, is_gone) else {
             return Err(LedgerFault::Memory);
         };
-        self.files.begin_file(path, line).map_err(ledger_fault)?;
+        let alloc = self.alloc;
+        self.files
+            .begin_file(alloc, path, line)
+            .map_err(ledger_fault)?;
         self.source.leave_file(is_gone);
         self.number = self.number.saturating_add(1);
         self.file.day = self.file.day.max(day);
+        self.before = None;
+        self.tell_sum();
         Ok(())
+    }
+
+    /// Finds the file of another run that was written last, if the first file is to be begun and it is not found yet.
+    fn find_before(&mut self) {
+        if self.number == 0 && self.before.is_none() {
+            let folder = self.source.folder.as_str();
+            let run = self.source.names.run;
+            self.before = self.files.disk().find_before(self.alloc, folder, run);
+        }
+    }
+
+    /// Tells the sum of the lines that were written, to be logged, if there is a file. It is that before the file's first
+    /// line if this is not written yet.
+    fn tell_sum(&mut self) {
+        if self.number == 0 {
+            return;
+        }
+        self.told = Instant::now(self.rt).ok();
+        self.source.state.tell_sum(FileSum {
+            run: self.source.names.run,
+            file: self.number.saturating_sub(1),
+            entries: self.entries,
+            sum: words_of(self.files.sum()),
+        });
     }
 
     /// Returns the path of the next file, whose first line has this time.
@@ -385,11 +407,16 @@ impl<R: Clock, D: LedgerDisk + Drop> Session<'_, R, D> {
         } else {
             &self.source.next
         };
+        let sum = self.files.sum();
         begin_line(
             self.alloc,
             &self.source.names,
             now,
-            self.number,
+            FileStart {
+                file: self.number,
+                sum,
+                before: self.before.as_ref(),
+            },
             serials.as_slice(),
             Vec::new(self.alloc),
         )
@@ -405,6 +432,7 @@ impl<R: Clock, D: LedgerDisk + Drop> Session<'_, R, D> {
             self.alloc,
             &self.source.names,
             now,
+            self.files.sum(),
             &self.source.counts,
             Vec::new(self.alloc),
         );
@@ -458,6 +486,7 @@ impl<R: Clock, D: LedgerDisk + Drop> Session<'_, R, D> {
                 None => left = left.saturating_add(1),
             }
         }
+        self.entries = self.entries.saturating_add(entries);
         self.source.state.count_written(entries);
         self.source.state.count_left_written(left);
     }
@@ -494,6 +523,28 @@ fn put_at(numbers: &mut Vec<u64>, lane: usize, number: u64) {
     if let Some(place) = numbers.get_mut(lane) {
         *place = number;
     }
+}
+
+/// Returns a sum, as four numbers of eight octets each.
+fn words_of(sum: [u8; SUM_OCTETS]) -> [u64; 4]
+    ensures { result ≡ from_be_bytes w64 (slice_range sum 0 8) ∷ from_be_bytes w64 (slice_range sum 8 16) ∷ from_be_bytes w64 (slice_range sum 16 24) ∷ from_be_bytes w64 (slice_range sum 24 32) ∷ [] }
+{
+    [
+        word_at(&sum, 0),
+        word_at(&sum, 8),
+        word_at(&sum, 16),
+        word_at(&sum, 24),
+    ]
+}
+
+/// Returns the number that the eight octets from a place on are.
+fn word_at(sum: &[u8; SUM_OCTETS], place: usize) -> u64
+    requires { place ≤ 24 }
+    ensures { result ≡ from_be_bytes w64 (slice_range sum.now place (place + 8)) }
+{
+    let mut octets = [0; 8];
+    octets.copy_from_slice(&sum[place..place + 8]);
+    u64::from_be_bytes(octets)
 }
 
 /// Returns the fault of the ledger that a fault of its disk is.
