@@ -4,11 +4,15 @@
 
 mod auditing;
 mod cells;
+mod chains;
 mod facts;
 mod faults;
 mod files;
+mod kept_sums;
 mod line_room;
+mod named_file;
 mod printing;
+mod read_file;
 mod rows;
 mod runs;
 mod shown;
@@ -25,6 +29,7 @@ ghost use Rattle.rad_audit.specs.declared.printing.Findings.{Findings as TheFind
 
 use auditing::audit_files;
 use faults::Fault;
+use kept_sums::KeptSums;
 use printing::{Asked, Findings, Outputs};
 use rad_console::{read_at_most, read_configuration};
 use rad_realms::Config;
@@ -70,7 +75,7 @@ where
     ensures { IfOk result (λ status. (found : TheFindings) × (status ≡ status_at found)) }
 {
     match read_words(alloc, arguments)? {
-        Wanted::Audit(words) => audit_words(rt, alloc, &words),
+        Wanted::Audit(words) => audit_words(rt, alloc, words),
         Wanted::Text(text) => print_text(rt, &text),
     }
 }
@@ -87,6 +92,7 @@ fn print_text<R: Runtime>(rt: &R, text: &clap::Error) -> Result<u8, Fault>
         gap: false,
         part: false,
         nothing: false,
+        run: false,
         unended: false,
     };
     match print!(rt; "{text}") {
@@ -96,17 +102,24 @@ fn print_text<R: Runtime>(rt: &R, text: &clap::Error) -> Result<u8, Fault>
 }
 
 /// Audits the files that these words name, and returns the status.
-fn audit_words<R: Runtime>(rt: &R, alloc: Global, words: &Words<'_>) -> Result<u8, Fault>
+fn audit_words<R: Runtime>(rt: &R, alloc: Global, words: Words<'_>) -> Result<u8, Fault>
 where
     R::File: Drop,
     ensures { IfOk result (λ status. (found : TheFindings) × (status ≡ status_at found)) }
 {
-    let config = load(rt, alloc, words.config)?;
-    let files = words.files.as_slice();
-    if words.rows {
-        print_rows(rt, alloc, &config, words.asked, files)
+    let Words {
+        rows,
+        asked,
+        sums,
+        config,
+        files,
+    } = words;
+    let config = load(rt, alloc, config)?;
+    let files = files.as_slice();
+    if rows {
+        print_rows(rt, alloc, &config, asked, files, sums)
     } else {
-        print_audit(rt, alloc, &config, words.asked, files)
+        print_audit(rt, alloc, &config, asked, files, sums)
     }
 }
 
@@ -117,6 +130,7 @@ fn print_audit<R: Runtime>(
     config: &Config,
     asked: Asked,
     files: &[&str],
+    sums: KeptSums<'_>,
 ) -> Result<u8, Fault>
 where
     R::File: Drop,
@@ -127,7 +141,7 @@ where
         lines: &mut output,
         rows: None,
     };
-    let audited = audit_files(rt, alloc, config, asked, files, outputs);
+    let audited = audit_files(rt, alloc, config, asked, files, sums, outputs);
     flush(&mut output)?;
     audited
 }
@@ -140,6 +154,7 @@ fn print_rows<R: Runtime>(
     config: &Config,
     asked: Asked,
     files: &[&str],
+    sums: KeptSums<'_>,
 ) -> Result<u8, Fault>
 where
     R::File: Drop,
@@ -151,7 +166,7 @@ where
         lines: &mut lines,
         rows: Some(&mut rows),
     };
-    let audited = audit_files(rt, alloc, config, asked, files, outputs);
+    let audited = audit_files(rt, alloc, config, asked, files, sums, outputs);
     flush(&mut rows)?;
     flush(&mut lines)?;
     audited

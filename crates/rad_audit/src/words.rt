@@ -1,6 +1,7 @@
 //! The words that the program is called with.
 
 use crate::faults::Fault;
+use crate::kept_sums::{KeptSum, KeptSums};
 use crate::printing::Asked;
 use clap::error::ErrorKind;
 use clap::{Arg, ArgAction, ArgMatches, Command};
@@ -25,6 +26,8 @@ pub struct Words<'a> {
     pub rows: bool,
     /// Which parts are asked for.
     pub asked: Asked,
+    /// The sums that somebody kept.
+    pub sums: KeptSums<'a>,
     /// The configuration's.
     pub config: &'a str,
     /// The ledgers', in the order in which they are read.
@@ -65,16 +68,33 @@ fn words_of<'a>(alloc: Global, matches: &ArgMatches<'a>) -> Result<Words<'a>, Fa
     let asked = Asked {
         from: matches.get_flag("from"),
         partial: matches.get_flag("partial"),
+        all: matches.get_flag("all"),
     };
+    let sums = sums_of(alloc, matches.get_strs("sum").unwrap_or(&[]))?;
     match files.to_vec(alloc) {
         Ok(files) => Ok(Words {
             rows,
             asked,
+            sums,
             config,
             files,
         }),
         Err(_) => Err(Fault::Memory),
     }
+}
+
+/// Returns the sums that these words name.
+fn sums_of<'a>(alloc: Global, words: &[&'a str]) -> Result<KeptSums<'a>, Fault> {
+    let mut sums = KeptSums::new(alloc);
+    for word in words {
+        let Some(sum) = KeptSum::read(word) else {
+            return Err(Fault::Usage);
+        };
+        if sums.add(sum).is_err() {
+            return Err(Fault::Memory);
+        }
+    }
+    Ok(sums)
 }
 
 /// Returns the words that the program takes.
@@ -85,6 +105,8 @@ fn command<'a>(alloc: Global) -> Result<Command<'a>, AllocError> {
         .arg(rows_word(alloc))?;
     let command = command.arg(from_word(alloc))?;
     let command = command.arg(partial_word(alloc))?;
+    let command = command.arg(all_word(alloc))?;
+    let command = command.arg(sum_word(alloc))?;
     let command = command.arg(config_word(alloc))?;
     command.arg(file_words(alloc))
 }
@@ -109,8 +131,25 @@ fn from_word<'a>(alloc: Global) -> Arg<'a> {
 fn partial_word<'a>(alloc: Global) -> Arg<'a> {
     Arg::new(alloc, "partial")
         .long("partial")
-        .help("They are, or the configuration lacks home servers or clients")
+        .help("They are, or not all of it can be judged")
         .action(ArgAction::SetTrue)
+}
+
+/// Returns the word `--all`.
+fn all_word<'a>(alloc: Global) -> Arg<'a> {
+    Arg::new(alloc, "all")
+        .long("all")
+        .help("No run before another one is left out")
+        .action(ArgAction::SetTrue)
+}
+
+/// Returns the word `--sum`, which may stand several times.
+fn sum_word<'a>(alloc: Global) -> Arg<'a> {
+    Arg::new(alloc, "sum")
+        .long("sum")
+        .value_name("RUN:FILE:SUM")
+        .help("Look whether the run has this sum in this file")
+        .action(ArgAction::Append)
 }
 
 /// Returns the word CONFIG, which is required.
