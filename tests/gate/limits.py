@@ -23,6 +23,7 @@ LIMITS, RINGS, WAKES, LEFT = "network/limits", "network/parallel_lanes", "timing
 # By source: each number, and what sees it: a test of a script, a row of tests/rows, or one of the above.
 NUMBERS = {
     "block_queue/src/block_queue.rt": {"MOST": ("0x8000_0000_0000_0000", PROVED)},
+    "ledger_files/src/chain.rt": {"SUM_OCTETS": ("32", PROVED)},
     "ledger_files/src/rotation.rt": {"MOST_OCTETS": ("268_369_920", PROVED), "STAY": ("10_000", PROVED)},
     "ledger_files/src/utc.rt": {"DAY": ("86_400_000", PROVED), "DAYS_TO_1970": ("719_468", PROVED), "CYCLE": ("146_097", PROVED),
                                 "CENTURY": ("36_524", PROVED), "FOUR_YEARS": ("1461", PROVED), "YEAR": ("365", PROVED)},
@@ -70,6 +71,7 @@ NUMBERS = {
     "rad_metrics/src/home_times.rt": {
         "IDENTIFIERS": ("256", f"{LIMITS} the_widest_window_is_out_at_once"), "BESIDE": ("256", CHOICE), "SERIALS": ("1 << 23", CHOICE),
         "UNTOLD": ("u64::MAX", FORM), "NUMBERS": ("1 << 24", PROVED), "TIMES": ("1 << 40", PROVED)},
+    "rad_metrics/src/file_sums.rt": {"SUMS": ("16", CHOICE), "WORDS": ("4", PROVED)},
     "rad_metrics/src/ledger_fault.rt": {"NUMBERS": ("1 << 32", CHOICE)},
     "rad_metrics/src/numbers.rt": {"STEP": ("1000", "ledger/disk_faults a_clock_that_is_set_moves_the_times")},
     "rad_metrics/src/system_files.rt": {"MOST_OCTETS": ("1 << 22", CHOICE)},
@@ -116,15 +118,15 @@ NUMBERS = {
     "rad_writer/src/filling.rt": {"SIZE": ("262_144", CHOICE), "LINES": ("1024", CHOICE)},
     "rad_writer/src/inlet.rt": {"LOOK": ("1", CHOICE)},
     "rad_writer/src/lines.rt": {"GREATEST_SERIAL": ("9_223_372_036_854_775_807", PROVED)},
-    "rad_writer/src/opening.rt": {"ROOM": ("67_108_864", "ledger/written_ledgers BOUND")},
-    "rad_writer/src/parcel.rt": {
-        "HEAD": ("66", PROVED), "MOST": ("HEAD + 3 * 4096", f"{LIMITS} the_longest_packets_pass_both_ways"), "MARKED": ("10", PROVED),
-        "RESPONSE": ("0", FORM), "QUEUED": ("1", FORM), "OUTSTANDING": ("2", FORM), "UNTAKEN": ("3", FORM),
-        "UNKNOWN_SENDINGS": ("u16::MAX", FORM), "UNKNOWN_TIME": ("u64::MAX", FORM)},
+    "rad_writer/src/file_before.rt": {
+        "READ_OCTETS": ("65_536", CHOICE), "RUN_DIGITS": ("16", "ledger/written_ledgers names_the_file_of_another_run_before"),
+        "NUMBER_DIGITS": ("6", "ledger/written_ledgers names_the_file_of_another_run_before")},
+    "rad_writer/src/opening.rt": {"ROOM": ("67_108_864", "ledger/written_ledgers BOUND"), "PLACES": ("180_000", PROVED)},
+    "rad_writer/src/parcel.rt": {"LONGEST": ("4096", PROVED), "MOST": ("3 * LONGEST", PROVED)},
     "rad_writer/src/runtime_disk.rt": {"MODE": ("0o640", "ledger/written_ledgers TESTS")},
     "rad_writer/src/writer.rt": {
         "PAUSE": ("50", "ledger/written_ledgers WRITTEN"), "AGAIN": ("1000", CHOICE), "SYNC": ("900", "ledger/written_ledgers SYNCED"),
-        "ANEW": ("60_000", "ledger/disk_faults FAILS")},
+        "ANEW": ("60_000", "ledger/disk_faults FAILS"), "TOLD": ("3_600_000", "ledger/written_ledgers tells_the_sum_each_hour")},
 }
 
 # By key of a home server: the least and the most, and what sees that a lane works at both. That they are the bounds is proved.
