@@ -3,3 +3,4 @@ pub mod Entries
 pub mod Fills
 pub mod Parcels
 pub mod RunNames
+pub mod RunLines

@@ -1,5 +1,8 @@
 //! Finding the file of another run that was written last.
 
+ghost use Rattle.std.specs.Prelude.{IfSome};
+ghost use Rattle.rad_writer.specs.RunLines.{IsOfOctets};
+
 use ledger_files::{FoundFile, SUM_OCTETS};
 use sha2::{Digest, Sha256};
 use std::alloc::{AllocGlobal, Global};
@@ -83,7 +86,9 @@ fn is_later(file: Option<&NamedFile>, seconds: i64, nanoseconds: i64) -> bool {
 }
 
 /// Reads a file to its end. Returns how many octets it has, and their SHA-256, unless a read fails.
-fn read_file<F: Read + Drop>(alloc: Global, file: F) -> Option<(u64, [u8; SUM_OCTETS])> {
+fn read_file<F: Read + Drop>(alloc: Global, file: F) -> Option<(u64, [u8; SUM_OCTETS])>
+    ensures { IfSome result (λ found. IsOfOctets found.0 found.1) }
+{
     let mut file = file;
     let mut room = Vec::with_capacity(alloc, READ_OCTETS).ok()?;
     room.resize(READ_OCTETS, 0).ok()?;

@@ -1,8 +1,9 @@
 //! The lines of a ledger, made of what passed through the buffer.
 
-ghost use Rattle.std.specs.Prelude.{◌≡◌, ◌<◌, ◌^◌, IfOk, MatchOption, option_copied, option_map, slice_get, string_bytes};
+ghost use Rattle.std.specs.Prelude.{◌≡◌, ◌<◌, ◌^◌, IfOk, MatchOption, Some, length, option_copied, option_map, slice_get, string_bytes};
 ghost use Rattle.ledger_lines.specs.Written.{HasLineBehind};
 ghost use Rattle.rad_writer.specs.Entries.{HasEntryBehind, HasLeftBehind, HasParcelBehind, IsEntryOf, IsLeftOf, IsMomentIfAny, IsMomentText, Tells, state_in};
+ghost use Rattle.rad_writer.specs.RunLines.{AreCounted, AreStarts, BeginsBehind, EndsBehind, NamesIfAny, count_in, lane_number, serial_in};
 
 use crate::counts::RunCounts;
 use crate::parcel::{Fate, Origin, Parcel, ParcelHead};
@@ -271,25 +272,44 @@ pub(crate) fn begin_line(
     next: &[u64],
     out: Vec<u8>,
 ) -> Result<Vec<u8>, AllocError>
-    ensures { IfOk result (λ all. HasLineBehind out.items all.items) }
+    ensures line { IfOk result (λ all. HasLineBehind out.items all.items) }
+    ensures begin { IfOk result (λ all. BeginsBehind names.now start.entry next.now out.items all.items) }
 {
     let time = time_text(alloc, time)?;
     let lanes = lane_starts(alloc, names, next)?;
-    let sum = start.sum;
-    let begin = Begin {
-        run: names.run,
-        time: time.as_str(),
-        version: VERSION,
-        file: start.file,
-        sum: Some(sum),
-        before: file_before(start.before),
-        lanes,
-    };
+    let begin = begin_of(names, time.as_str(), start, lanes);
     write_begin(alloc, &begin, out)
 }
 
+/// Returns what begins a file, with this text for its time, and these lanes.
+fn begin_of<'a>(
+    names: &RunNames,
+    time: &'a str,
+    start: FileStart<'a>,
+    lanes: Vec<LaneStart<'a>>,
+) -> Begin<'a>
+    ensures run { result.run ≡ names.now.run }
+    ensures file { result.file ≡ start.entry.file }
+    ensures sum { result.sum ≡ Some start.entry.sum }
+    ensures before { NamesIfAny (option_copied start.entry.before) result.before }
+    ensures lanes { result.lanes.items ≡ lanes.entry.items }
+{
+    let sum = Some(start.sum);
+    Begin {
+        run: names.run,
+        time,
+        version: VERSION,
+        file: start.file,
+        sum,
+        before: file_before(start.before),
+        lanes,
+    }
+}
+
 /// Returns a file that was found, as a line names it.
-fn file_before(found: Option<&FoundFile>) -> Option<FileBefore<'_>> {
+fn file_before(found: Option<&FoundFile>) -> Option<FileBefore<'_>>
+    ensures { NamesIfAny (option_copied found.entry) result }
+{
     let found = found?;
     let sha256 = found.sha256;
     Some(FileBefore {
@@ -308,13 +328,16 @@ fn lane_starts<'a>(
     alloc: Global,
     names: &'a RunNames,
     next: &[u64],
-) -> Result<Vec<LaneStart<'a>>, AllocError> {
+) -> Result<Vec<LaneStart<'a>>, AllocError>
+    ensures { IfOk result (λ lanes. AreStarts names.now.homes.items next.now lanes.items) }
+{
     let mut lanes = Vec::with_capacity(alloc, names.homes.len())?;
-    for (lane, home) in names.homes.iter().enumerate() {
+    for lane in 0..names.homes.len() {
+        let serial = serial_at(next, lane);
         lanes.push(LaneStart {
-            lane: u16::try_from(lane).unwrap_or(u16::MAX),
-            home: home.as_str(),
-            serial: serial_at(next, lane),
+            lane: number_of(lane),
+            home: names.homes[lane].as_str(),
+            serial,
         })?;
     }
     Ok(lanes)
@@ -330,27 +353,45 @@ fn lane_counts(
     alloc: Global,
     names: &RunNames,
     counts: &RunCounts,
-) -> Result<Vec<LaneCount>, AllocError> {
+) -> Result<Vec<LaneCount>, AllocError>
+    ensures { IfOk result (λ lanes. AreCounted (length names.now.homes.items) lanes.items) }
+{
     let mut lanes = Vec::with_capacity(alloc, names.homes.len())?;
     for lane in 0..names.homes.len() {
-        let (accepted, left) = match counts.end_of_lane(lane) {
-            Some((accepted, left)) => (Some(accepted), Some(left)),
-            None => (None, None),
-        };
-        lanes.push(LaneCount {
-            lane: u16::try_from(lane).unwrap_or(u16::MAX),
-            entries: counts.of_lane(lane),
-            accepted,
-            left,
-        })?;
+        let end = counts.end_of_lane(lane);
+        lanes.push(count_of(lane, counts.of_lane(lane), end))?;
     }
     Ok(lanes)
+}
+
+/// Returns a lane, with how many responses of it were taken, and, once that was told, how many requests it accepted and
+/// how many of them are left.
+fn count_of(lane: usize, entries: u64, end: Option<(u64, u64)>) -> LaneCount
+    ensures { result ≡ count_in lane entries end }
+{
+    let (accepted, left) = match end {
+        Some((accepted, left)) => (Some(accepted), Some(left)),
+        None => (None, None),
+    };
+    LaneCount {
+        lane: number_of(lane),
+        entries,
+        accepted,
+        left,
+    }
+}
+
+/// Returns a lane's number, as a line has it.
+fn number_of(lane: usize) -> u16
+    ensures { result ≡ lane_number lane }
+{
+    u16::try_from(lane).unwrap_or(u16::MAX)
 }
 
 /// Returns a lane's next serial.
 fn serial_at(next: &[u64], lane: usize) -> u64
     ensures bounded { result < 2 ^ 63 }
-    ensures value { MatchOption (slice_get next.now lane) (result ≡ 0) (λ serial. serial < 2 ^ 63 → result ≡ serial) }
+    ensures value { result ≡ serial_in (slice_get next.now lane) }
 {
     match next.get(lane) {
         Some(serial) => (*serial).min(GREATEST_SERIAL),
@@ -371,7 +412,8 @@ pub(crate) fn end_line(
     counts: &RunCounts,
     out: Vec<u8>,
 ) -> Result<Vec<u8>, AllocError>
-    ensures { IfOk result (λ all. HasLineBehind out.items all.items) }
+    ensures line { IfOk result (λ all. HasLineBehind out.items all.items) }
+    ensures end { IfOk result (λ all. EndsBehind names.now sum out.items all.items) }
 {
     let time = time_text(alloc, time)?;
     let lanes = lane_counts(alloc, names, counts)?;
