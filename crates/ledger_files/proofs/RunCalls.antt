@@ -1,6 +1,6 @@
 -- What each call leaves of a run.
 use Rattle.std.proofs.Common.{◌≡◌, ℕ, zero, suc, ◌+◌, ◌-◌, ◌<◌, ◌≤◌, Bool, true, false, inl, List, [], ◌∷◌, ◌++◌, Option, Some, None, Result, Ok, Err, MatchResult, length, take, drop, get_or, refl, sym, ap, ◌∙◌, subst, ⊎_elim, arith, length-append, append-nil, add-one}
-use Rattle.std.specs.Prelude.{IfSome, IsTrue, ◌↔◌}
+use Rattle.std.specs.Prelude.{IfSome, IsErrAnd, IsTrue, ◌↔◌}
 use Rattle.std.specs.List.{concat, slice_range}
 use Rattle.std.proofs.Math.Seq.{take-suc, drop-cons, drop-append-add}
 use Rattle.std.proofs.lemmas.List.{take-append-drop, drop-append-le, drop_all}
@@ -201,6 +201,16 @@ batch_kept (Some fs) first old new last sum lines keeps d w h = record {
   batch_is = left_kept old new h.left h.written keeps d w h.batch_is;
   run_is = h.run_is;
 }
+
+-- A call that failed leaves what was there.
+pub left_as_is : {T E : Type 0} (result : Result T E) (P : T → Type 0) (Q : Type 0) (fault : E) → IsErrAnd result (λ f. f ≡ fault) → Q → MatchResult result P (λ _. Q)
+left_as_is (Ok x) P Q fault e q = absurd e
+left_as_is (Err f) P Q fault e q = q
+
+pub none_passed : (files : Option (List File)) (first : Pending) (old new : Batch) (last : Pending) (sum next : List ℕ) (lines : List (List ℕ)) → next ≡ sum → Keeps old new → new.done ≡ old.done → new.whole ≡ old.whole
+    → Of files first old last sum lines → Of files first new last next lines
+none_passed files first old new last sum next lines e keeps d w h =
+    subst (λ (x : List ℕ). Of files first new last x lines) (sym e) (batch_kept files first old new last sum lines keeps d w h)
 
 pub added : (files : Option (List File)) (first : Pending) (old new : Batch) (last : Pending) (sum : List ℕ) (lines : List (List ℕ)) (line : List ℕ) → length last.octets.items ≡ 0 → last.done ≤ length last.octets.items → Fits old
     → ((held : List (List ℕ)) → HoldsLines old held → HoldsLines new (held ++ line ∷ [])) → new.done ≡ old.done → new.whole ≡ old.whole

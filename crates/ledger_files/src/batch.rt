@@ -2,10 +2,19 @@
 
 ghost use Rattle.std.specs.Prelude.{◌≡◌, ◌≤◌, vec_len};
 
-use crate::chain::Chain;
+use crate::chain::{Chain, SUM_OCTETS};
+use crate::digests::digest_lines;
 use crate::disk::{DiskFault, LedgerDisk};
 use crate::pending::write_rest;
 use std::alloc::{AllocError, Global};
+use std::marker::Sync;
+use std::thread::Threads;
+
+/// From how many octets on the lines are shared out among threads to be digested.
+const SHARED: usize = 65_536;
+
+/// How many threads digest such lines, this one among them.
+const THREADS: usize = 3;
 
 /// What a line is of: an entry, or a request that is left.
 #[derive(Clone, Copy, Debug, PartialEq, Eq)]
@@ -30,6 +39,8 @@ pub struct Batch {
     ends: Vec<usize>,
     /// How many of the lines are written whole.
     whole: usize,
+    /// The SHA-256 of each of the first lines, as far as they were digested.
+    digests: Vec<[u8; SUM_OCTETS]>,
     ghost written: { (start ≤ done) × (done ≤ vec_len octets) },
     ghost counted: { (vec_len heads ≡ vec_len ends) × (whole ≤ vec_len ends) },
 }
@@ -56,6 +67,7 @@ impl Batch {
             heads: Vec::with_capacity(alloc, lines)?,
             ends: Vec::with_capacity(alloc, lines)?,
             whole: 0,
+            digests: Vec::with_capacity(alloc, lines)?,
         })
     }
 
@@ -108,6 +120,7 @@ impl Batch {
         self.heads.clear();
         self.ends.clear();
         self.whole = 0;
+        self.digests.clear();
     }
 
     /// Adds a line behind the others.
@@ -125,6 +138,22 @@ impl Batch {
         self.octets.extend_from_slice(line)?;
         self.heads.push_reserved(head);
         self.ends.push_reserved(self.octets.len());
+        Ok(())
+    }
+
+    /// Digests all lines, by a few threads if they are long together. Lines that were not digested are when they are passed.
+    ///
+    /// # Errors
+    ///
+    /// `AllocError` if memory is refused. None of the lines is digested then.
+    pub fn digest<R: Threads + Sync>(&mut self, rt: &R) -> Result<(), AllocError>
+        ensures lines { (lines : List (List ℕ)) → HoldsLines self.old lines → HoldsLines self.new lines }
+        ensures all { OnOk result (vec_len self.new.digests ≡ vec_len self.old.ends) }
+        ensures same { (self.new.done ≡ self.old.done) × (self.new.whole ≡ self.old.whole) × (self.new.octets ≡ self.old.octets) × (self.new.heads ≡ self.old.heads) × (self.new.ends ≡ self.old.ends) }
+    {
+        let threads = if self.octets.len() < SHARED { 1 } else { THREADS };
+        let octets = self.octets.as_slice();
+        digest_lines(rt, octets, self.ends.as_slice(), threads, &mut self.digests)?;
         Ok(())
     }
 
@@ -164,7 +193,10 @@ impl Batch {
             return None;
         }
         let head = self.heads[self.whole];
-        chain.add(&self.octets[self.start.min(end)..end]);
+        match self.digests.get(self.whole) {
+            Some(digest) => chain.add_digest(*digest),
+            None => chain.add(&self.octets[self.start.min(end)..end]),
+        }
         self.start = end;
         self.whole += 1;
         Some(head)

@@ -8,6 +8,7 @@
 
 mod batch;
 mod chain;
+mod digests;
 mod disk;
 mod file_name;
 mod pending;

@@ -12,6 +12,8 @@ use crate::chain::{Chain, SUM_OCTETS};
 use crate::disk::{DiskFault, LedgerDisk};
 use crate::pending::Pending;
 use std::alloc::{AllocError, Global};
+use std::marker::Sync;
+use std::thread::Threads;
 
 /// The files of a run on a disk, and the lines that are to be written to the one that is open: the line that begins it,
 /// lines of entries, and the line that ends the run.
@@ -165,6 +167,21 @@ impl<D: LedgerDisk + Drop> RunFiles<D> {
         self.first.pass(&mut self.chain);
         begun?;
         self.batch.write(&mut self.disk)?;
+        Ok(())
+    }
+
+    /// Digests the lines of entries.
+    ///
+    /// # Errors
+    ///
+    /// That of [`Batch::digest`].
+    pub fn digest<R: Threads + Sync>(&mut self, rt: &R) -> Result<(), AllocError>
+        ensures same { (self.new.disk ≡ self.old.disk) × (self.new.first ≡ self.old.first) × (self.new.last ≡ self.old.last) × (self.new.chain ≡ self.old.chain) }
+        ensures batch { (self.new.batch.done ≡ self.old.batch.done) × (self.new.batch.whole ≡ self.old.batch.whole) × (self.new.batch.octets ≡ self.old.batch.octets) × (self.new.batch.heads ≡ self.old.batch.heads) × (self.new.batch.ends ≡ self.old.batch.ends) }
+        ensures all { OnOk result (vec_len self.new.batch.digests ≡ vec_len self.old.batch.ends) }
+        ensures run { (lines : List (List ℕ)) → IsRun (D.files self.old.disk) self.old lines → IsRun (D.files self.new.disk) self.new lines }
+    {
+        self.batch.digest(rt)?;
         Ok(())
     }
 

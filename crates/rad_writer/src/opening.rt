@@ -20,6 +20,7 @@ use rad_realms::{Config, Home};
 use rtrb::RingBuffer;
 use std::alloc::{AllocError, AllocGlobal, Global};
 use std::env::{self, Env, VarError};
+use std::marker::Sync;
 use std::random::RandomSource;
 use std::sync::{Arc, Wait};
 use std::thread::{self, Threads};
@@ -210,7 +211,7 @@ fn draw_name<R: Clock + RandomSource>(rt: &R) -> u64 {
 /// Starts the thread that writes to this disk, and returns whether that succeeded. No thread joins it: it ends with the program.
 pub fn start_writer<R, D>(rt: &R, alloc: Global, writer: LedgerWriter, disk: D) -> bool
 where
-    R: Clock + Threads + Wait + Copy + Send + 'static,
+    R: Clock + Threads + Wait + Sync + Copy + Send + 'static,
     D: LedgerDisk + Drop + Send + 'static,
 {
     let own = *rt;

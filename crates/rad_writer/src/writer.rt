@@ -14,7 +14,9 @@ use ledger_files::{
 };
 use rad_metrics::{FileSum, LedgerFault, LedgerState, time_since_1970};
 use std::alloc::{AllocError, Global};
+use std::marker::Sync;
 use std::sync::{Arc, Wait};
+use std::thread::Threads;
 use std::time::{Clock, Duration, Instant};
 
 /// How many milliseconds the thread sleeps between two rounds.
@@ -96,7 +98,12 @@ struct Session<'a, R, D: Drop> {
 
 impl LedgerWriter {
     /// Writes the entries as they come, until the ledger is ended and all is written. The thread does nothing else.
-    pub fn write_all<R: Clock + Wait, D: LedgerDisk + Drop>(self, rt: &R, alloc: Global, disk: D) {
+    pub fn write_all<R: Clock + Wait + Threads + Sync, D: LedgerDisk + Drop>(
+        self,
+        rt: &R,
+        alloc: Global,
+        disk: D,
+    ) {
         let LedgerWriter { source, batch } = self;
         let began = Instant::now(rt).ok();
         let mut session = Session {
@@ -161,7 +168,7 @@ impl LineSource {
     }
 }
 
-impl<R: Clock, D: LedgerDisk + Drop> Session<'_, R, D> {
+impl<R: Clock + Threads + Sync, D: LedgerDisk + Drop> Session<'_, R, D> {
     /// Writes what there is, and reports whether that failed. After a fault it goes on where it stopped, at first in the
     /// same file. If that fails again, or the file is no longer there, it begins the next file.
     fn do_round(&mut self, is_last: bool) {
@@ -257,7 +264,7 @@ impl<R: Clock, D: LedgerDisk + Drop> Session<'_, R, D> {
         Ok(())
     }
 
-    /// Makes lines of the next entries, if all lines before them are written.
+    /// Makes lines of the next entries, if all lines before them are written, and digests them.
     fn make_lines(&mut self) -> Result<(), LedgerFault> {
         if self.files.batch().is_done() && !self.files.is_ended() {
             let alloc = self.alloc;
@@ -265,6 +272,7 @@ impl<R: Clock, D: LedgerDisk + Drop> Session<'_, R, D> {
             if self.source.fill(&mut self.files, alloc, day).is_err() {
                 return Err(LedgerFault::Memory);
             }
+            let _ = self.files.digest(self.rt);
         }
         self.source.state.set_oldest(self.oldest());
         Ok(())
