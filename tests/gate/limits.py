@@ -121,7 +121,9 @@ NUMBERS = {
     "rad_writer/src/file_before.rt": {
         "READ_OCTETS": ("65_536", CHOICE), "RUN_DIGITS": ("16", "ledger/written_ledgers names_the_file_of_another_run_before"),
         "NUMBER_DIGITS": ("6", "ledger/written_ledgers names_the_file_of_another_run_before")},
-    "rad_writer/src/opening.rt": {"ROOM": ("67_108_864", "ledger/written_ledgers BOUND"), "PLACES": ("180_000", PROVED)},
+    "rad_writer/src/opening.rt": {
+        "ROOM": ("67_108_864", "ledger/written_ledgers BOUND"),
+        "PLACES": ("180_000", "ledger/written_ledgers a_hundred_eighty_thousand_small_entries_wait")},
     "rad_writer/src/parcel.rt": {"LONGEST": ("4096", PROVED), "MOST": ("3 * LONGEST", PROVED)},
     "rad_writer/src/runtime_disk.rt": {"MODE": ("0o640", "ledger/written_ledgers TESTS")},
     "rad_writer/src/writer.rt": {

@@ -17,11 +17,13 @@ import subprocess
 import time
 
 from tests.lib import CLASS, HERE, HOME_SECRET, NAS_SECRET, START, attribute, bound, built, environment, hope, request, try_named, until
-from tests.lib.ledger.trials import PATIENCE, SLACK, SYNCED, WRITTEN, Steered, Trial
+from tests.lib.ledger.trials import LATE, PATIENCE, SLACK, SYNCED, WRITTEN, Steered, Trial
 
 NAME = re.compile("([0-9]{4}-[0-9]{2}-[0-9]{2})-([0-9a-f]{16})-([0-9]{6})[.]jsonl")
 # How many octets may wait, and how many more of memory a ledger may take for its lines.
 BOUND, ROOM = 64 * 2**20, 4 * 2**20
+# How many entries may wait, however few octets they have, and how many more are asked for.
+PLACES, BEYOND = 180_000, 5000
 
 
 def writes_what_was_acknowledged(trial):
@@ -198,6 +200,32 @@ def drops_are_counted(trial):
     hope("verdict", trial.verdict().startswith("gap "), True)
 
 
+def a_hundred_eighty_thousand_small_entries_wait(trial):
+    """Of entries with few octets 180,000 wait, beside the one whose line is made already. Those behind are dropped and counted, answers
+    come as ever, and once the folder is there all that waited is written, in order, with a gap behind it."""
+    trial.file.write_text(trial.file.read_text().replace("[[realm]]", "book = 1000000\n[[realm]]"))
+    trial.folder.rmdir()
+    trial.begin()
+    trial.ask(1)
+    until("its line is made", lambda: trial.number("ledger_oldest_waiting_seconds") > 0)
+    hope("acknowledged", trial.ask(PLACES + BEYOND), PLACES + BEYOND)
+    counts = lambda: [trial.number(f"ledger_{name}") for name in ("written_total", "waiting", "dropped_total")]
+    until("all are counted", lambda: sum(counts()) == len(trial.told))
+    hope("written, waiting and dropped", counts(), [0, 1 + PLACES, BEYOND])
+    trial.folder.mkdir()
+    until("none waits", lambda: trial.number("ledger_waiting") == 0)
+    hope("acknowledged behind the gap", trial.ask(100), 100)
+    hope("the longest answer is late", (max(trial.delays) > LATE, max(trial.delays)), (False, max(trial.delays)))
+    trial.ends()
+    hope("written, waiting and dropped at the end", counts(), [1 + PLACES + 100, 0, BEYOND])
+    lines = trial.ledger_lines()
+    entries = [line for line in lines if line["type"] == "entry"]
+    hope("the end line", lines[-1]["lanes"][0]["entries"] - len(entries), BEYOND)
+    waited, behind = range(1 + PLACES), range(1 + PLACES + BEYOND, len(trial.told))
+    hope("all in order", [entry["serial"] for entry in entries] == [*waited, *behind], True)
+    hope("missing", len(set(trial.told) - {entry["response"] for entry in entries}), BEYOND)
+
+
 def a_killed_run_is_open(trial):
     """After a kill what was acknowledged a tenth of a second before stands in the ledger, without a gap, and the run is open."""
     chance = random.Random(os.environ.get("SEED", "1"))
@@ -262,8 +290,8 @@ def a_name_that_is_no_text_is_told(trial):
 TESTS = [
     writes_what_was_acknowledged, names_the_file_of_another_run_before, tells_the_sum_each_hour, writes_none_unasked,
     ends_a_run_with_requests_left, a_program_that_cannot_serve_leaves_no_file, is_written_within_a_tenth_of_a_second,
-    is_synced_each_second, is_handed_over_before_it_is_sent, drops_are_counted, a_killed_run_is_open, a_run_that_ends_by_a_fault_is_open,
-    a_long_ledger_is_several_files, a_name_that_is_no_text_is_told,
+    is_synced_each_second, is_handed_over_before_it_is_sent, drops_are_counted, a_hundred_eighty_thousand_small_entries_wait,
+    a_killed_run_is_open, a_run_that_ends_by_a_fault_is_open, a_long_ledger_is_several_files, a_name_that_is_no_text_is_told,
 ]
 
 
