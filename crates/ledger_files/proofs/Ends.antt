@@ -75,11 +75,11 @@ holds_digested old new digests lines h eo ee ew es ed n each = record {
   some = omega (arith, h.some);
   start = es ∙ h.start ∙ ap (λ n. length (concat (take n lines))) (sym ew);
   digests =
-    let count : length digests ≡ length (map sha256 lines) = omega (arith, n, length-map lines sha256) in
-    ed ∙ ext_get_or [] digests (map sha256 lines) count
-    (λ k l. each k l ∙ sym (get_or-map sha256 lines k [] [] (omega (arith, n))))
-    ∙ sym (take_all (length digests) (map sha256 lines) (omega (arith, count)))
-    ∙ ap (λ (ds : List (List ℕ)). take (length ds) (map sha256 lines)) (sym ed);
+      let count : length digests ≡ length (map sha256 lines) = omega (arith, n, length-map lines sha256) in
+      ed ∙ ext_get_or [] digests (map sha256 lines) count
+      (λ k l. each k l ∙ sym (get_or-map sha256 lines k [] [] (omega (arith, n))))
+      ∙ sym (take_all (length digests) (map sha256 lines) (omega (arith, count)))
+      ∙ ap (λ (ds : List (List ℕ)). take (length ds) (map sha256 lines)) (sym ed);
 }
 
 pub holds_more : (old new : Batch) (line : List ℕ) (lines : List (List ℕ)) → HoldsLines old lines → new.octets.items ≡ old.octets.items ++ line → new.ends.items ≡ old.ends.items ++ length (old.octets.items ++ line) ∷ []
@@ -148,7 +148,7 @@ begins_at all places lines (suc k) start h low first further =
     further (omega arith) ∙ ap (λ (n : ℕ). get_or places n 0) before ∙ h.ends k (omega (arith, low)) ∙ ap (λ (n : ℕ). length (concat (take n lines))) (add-one k)
 
 pub lines_of_batch : (batch : Batch) (held : List (List ℕ)) → HoldsLines batch held → AreLines batch.octets.items batch.ends.items held
-lines_of_batch batch held h = record { octets = h.octets; count = h.count; ends = h.ends; }
+lines_of_batch batch held h = record { octets = h.octets; count = h.count; ends = h.ends }
 
 -- The octets of the next line of a batch.
 pub line_at : (batch : Batch) (held : List (List ℕ)) (octets : List ℕ) (from end : ℕ) → HoldsLines batch held → batch.whole < length batch.ends.items

@@ -151,7 +151,11 @@ impl Batch {
         ensures all { OnOk result (vec_len self.new.digests ≡ vec_len self.old.ends) }
         ensures same { (self.new.done ≡ self.old.done) × (self.new.whole ≡ self.old.whole) × (self.new.octets ≡ self.old.octets) × (self.new.heads ≡ self.old.heads) × (self.new.ends ≡ self.old.ends) }
     {
-        let threads = if self.octets.len() < SHARED { 1 } else { THREADS };
+        let threads = if self.octets.len() < SHARED {
+            1
+        } else {
+            THREADS
+        };
         let octets = self.octets.as_slice();
         digest_lines(rt, octets, self.ends.as_slice(), threads, &mut self.digests)?;
         Ok(())

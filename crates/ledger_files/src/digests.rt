@@ -44,7 +44,12 @@ fn set_digests<R: Threads + Sync>(
     ensures count { length digests.new ≡ length digests.old }
     ensures each { (lines : List (List ℕ)) → AreLines octets.now ends.now lines → (k : ℕ) → k < length digests.old → k < length lines → slice_index_or digests.new k [] ≡ sha256 (slice_index_or lines k []) }
 {
-    thread::for_each_mut(rt, digests, threads, &|place, digest| *digest = digest_at(octets, ends, place));
+    thread::for_each_mut(
+        rt,
+        digests,
+        threads,
+        &|place, digest| *digest = digest_at(octets, ends, place),
+    );
 }
 
 /// Returns the SHA-256 of the line at a place.
