@@ -105,6 +105,25 @@ def a_limit_of_size_is_a_next_file(trial):
     trial.answers_as_without()
 
 
+def a_first_line_that_finds_no_room_begins_no_file_each_second(trial):
+    """Where not even the first line of a file has room, one more file at most is begun in a minute. Once there is room none is missing."""
+
+    def limit():
+        signal.signal(signal.SIGXFSZ, signal.SIG_IGN)
+        resource.setrlimit(resource.RLIMIT_FSIZE, (100, resource.RLIM_INFINITY))
+
+    trial.begin(before=limit, RAD_PROXY_COUNTERS="")
+    trial.ask(100)
+    until("it is told", lambda: trial.events("ledger-fault"))
+    time.sleep(4.5)
+    hope("the files", [file.stat().st_size for file in trial.files()], [100, 100])
+    resource.prlimit(trial.ran.pid, resource.RLIMIT_FSIZE, (resource.RLIM_INFINITY, resource.RLIM_INFINITY))
+    until("the entries", lambda: len(trial.entries()) == 100)
+    trial.ends()
+    hope("serials", [entry["serial"] for entry in trial.entries()], list(range(100)))
+    hope("what is told", len(trial.events("ledger-fault")), 1)
+
+
 def a_full_disk_loses_nothing(trial):
     """While a disk is full requests are answered and that is told once; once it has room all entries come."""
     if os.getuid() != 0:
@@ -166,7 +185,8 @@ def writes_of_twelve_seconds_lose_nothing(trial):
 
 TESTS = [
     a_folder_that_is_not_there_is_told, a_folder_that_goes_away_and_comes_back, a_folder_that_is_made_anew,
-    a_folder_that_is_a_file_is_told, a_file_that_is_there_is_left, a_limit_of_size_is_a_next_file, a_full_disk_loses_nothing,
+    a_folder_that_is_a_file_is_told, a_file_that_is_there_is_left, a_limit_of_size_is_a_next_file,
+    a_first_line_that_finds_no_room_begins_no_file_each_second, a_full_disk_loses_nothing,
     a_slow_write_delays_no_answer, slow_writes_lose_nothing,
 ]
 LONG = [writes_of_twelve_seconds_lose_nothing]

@@ -1,7 +1,7 @@
 //! The writer's end of the buffer.
 
-ghost use Rattle.std.specs.Prelude.{◌≡◌, ◌+◌, ◌≤◌, ◌++◌, length, take, vec_len, MatchBool};
-ghost use Rattle.rtrb.specs.Ring.{received};
+ghost use Rattle.std.specs.Prelude.{◌≡◌, ◌+◌, ◌<◌, ◌≤◌, ◌++◌, length, take, vec_len, MatchBool};
+ghost use Rattle.rtrb.specs.Ring.{known_items, received};
 ghost use Rattle.rad_writer.specs.Parcels.{HasPackets, all_octets, octets_held, octets_of};
 
 use crate::parcel::{MOST, Origin, Parcel, ParcelHead};
@@ -24,7 +24,7 @@ pub(crate) struct EntryBuffer {
 
 impl EntryBuffer {
     ghost use Rattle.std.specs.Prelude.{[], None, MatchOption, IfOk};
-    ghost use Rattle.rad_writer.specs.Buffer.{HoldsParcel, SameTaken, TakesNothing, TakesParcel};
+    ghost use Rattle.rad_writer.specs.Buffer.{HasNone, HoldsParcel, SameTaken, TakesNothing, TakesParcel};
 
     /// Makes the end, with room for the packets of a parcel.
     ///
@@ -52,7 +52,8 @@ impl EntryBuffer {
     /// Takes the next parcel, if there is one and none is held. A head is there only once its packets are, so one without
     /// them can't be found. It would wait for them.
     pub(crate) fn take(&mut self)
-        ensures { MatchOption self.old.held (MatchOption self.new.held (TakesNothing self.old self.new) (λ head. TakesParcel self.old head self.new)) (λ _. TakesNothing self.old self.new) }
+        ensures takes { MatchOption self.old.held (MatchOption self.new.held (TakesNothing self.old self.new) (λ head. TakesParcel self.old head self.new)) (λ _. TakesNothing self.old self.new) }
+        ensures none { MatchOption self.old.held (MatchOption self.new.held (HasNone self.new) (λ _. Unit {0})) (λ _. Unit {0}) }
     {
         if self.held.is_some() || self.heads.is_empty() {
             return;
@@ -85,6 +86,7 @@ fn take_octets(packets: &mut Consumer<u8, Global>, count: usize, room: &mut Vec<
     requires { count ≤ vec_len room.old }
     ensures room { vec_len room.new ≡ vec_len room.old }
     ensures taken { MatchBool result (received packets.new ≡ received packets.old ++ take count room.new.items) ((received packets.new ≡ received packets.old) × (room.new.items ≡ room.old.items)) }
+    ensures wants { MatchBool result (Unit {0}) (length (known_items packets.new) < count) }
 {
     let (front, _) = room.as_mut_slice().split_at_mut(count);
     packets.pop_entire_slice(front).is_ok()

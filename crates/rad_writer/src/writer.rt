@@ -29,7 +29,7 @@ const AGAIN: u64 = 1000;
 /// late by at most its own writes and [`PAUSE`].
 const SYNC: u64 = 900;
 
-/// How many milliseconds pass at least between two files that are begun since the one before can't be synced.
+/// How many milliseconds pass at least between two files that are begun since the one before can't be synced, or begun.
 const ANEW: u64 = 60_000;
 
 /// How many milliseconds after the sum was told it is told again.
@@ -84,7 +84,7 @@ struct Session<'a, R, D: Drop> {
     sync_fault: Option<LedgerFault>,
     /// Whether something was written since the last sync that held.
     is_unsynced: bool,
-    /// When a file was begun last since the one before could not be synced.
+    /// When a file was begun last since the one before could not be synced, or begun.
     anew: Option<Instant>,
     /// How many entries were written.
     entries: u64,
@@ -187,19 +187,25 @@ impl<R: Clock + Threads + Sync, D: LedgerDisk + Drop> Session<'_, R, D> {
         }
     }
 
-    /// Returns whether the next file is to be begun after a fault. One that can't be synced is given up at most once a
-    /// minute.
+    /// Returns whether the next file is to be begun after a fault. One that can't be synced, or whose first line is not
+    /// written whole, is given up at most once a minute.
     fn gives_up(&mut self, fault: LedgerFault, was_failing: bool) -> bool {
         let is_again = was_failing && self.files.disk().size() > 0;
         match fault {
             LedgerFault::Gone => true,
-            LedgerFault::Sync(_) if is_again && self.is_past(self.anew, ANEW) => {
-                self.anew = Instant::now(self.rt).ok();
-                true
-            }
-            LedgerFault::Sync(_) => false,
-            _ => is_again,
+            LedgerFault::Sync(_) => is_again && self.is_anew(),
+            _ if self.files.is_begun() => is_again,
+            _ => is_again && self.is_anew(),
         }
+    }
+
+    /// Returns whether a minute has passed since this was so last.
+    fn is_anew(&mut self) -> bool {
+        let is_past = self.is_past(self.anew, ANEW);
+        if is_past {
+            self.anew = Instant::now(self.rt).ok();
+        }
+        is_past
     }
 
     /// Returns whether so many milliseconds have passed since a moment, if there is one. If the clock can't be read, they

@@ -30,7 +30,7 @@ returns-in_default g c = λ before has lines run.
     record {
       more = so.more;
       made = so.made;
-      passed = taken_next c.loop-made.self.entries c.take.new.self (before ++ so.more) c.take.ensures so.passed;
+      passed = taken_next c.loop-made.self.entries c.take.new.self (before ++ so.more) c.take.ensures.takes so.passed;
       are = so.are;
       days = so.days;
       runs = so.runs;
@@ -39,7 +39,7 @@ returns-in_default g c = λ before has lines run.
 pub returns-then-size-ge-SIZE : goal.returns-then-size-ge-SIZE
 returns-then-size-ge-SIZE g c = λ before has lines run.
     let so = (c.loop-made.invariant.fills before has lines run).0 in
-    let taken : HasPassed c.take.new.self (before ++ so.more) = taken_next c.loop-made.self.entries c.take.new.self (before ++ so.more) c.take.ensures so.passed in
+    let taken : HasPassed c.take.new.self (before ++ so.more) = taken_next c.loop-made.self.entries c.take.new.self (before ++ so.more) c.take.ensures.takes so.passed in
     let same : c.take.new.self ≡ c.then-size-ge-SIZE.self.entries =
     elim c.then-size-ge-SIZE.branch [
       | then-size-ge-SIZE-via-then-size-ge-SIZE w ↦ sym (ap (λ s. s.entries) w.self-is)
@@ -60,7 +60,7 @@ returns-in_err-line g c = λ before has lines run.
     record {
       more = so.more;
       made = so.made;
-      passed = taken_next c.loop-made.self.entries c.take.new.self (before ++ so.more) c.take.ensures so.passed;
+      passed = taken_next c.loop-made.self.entries c.take.new.self (before ++ so.more) c.take.ensures.takes so.passed;
       are = so.are;
       days = so.days;
       runs = so.runs;
@@ -72,7 +72,7 @@ returns-in_err-add g c = λ before has lines run.
     record {
       more = so.more;
       made = so.made;
-      passed = taken_next c.loop-made.self.entries c.take.new.self (before ++ so.more) c.take.ensures so.passed;
+      passed = taken_next c.loop-made.self.entries c.take.new.self (before ++ so.more) c.take.ensures.takes so.passed;
       are = so.are;
       days = so.days;
       runs = c.in_err-add.ensures.run (lines ++ so.made) so.runs;
@@ -89,7 +89,7 @@ loop-made-preserved g c = record {
       let holds = c.in-Some.ensures in
       let one : Taken = held_as parcel.head c.take.new.self.room.items in
       let line = c.as_slice.result.now in
-      let taken : HasPassed c.take.new.self (before ++ so.more) = taken_next c.loop-made.self.entries c.take.new.self (before ++ so.more) c.take.ensures so.passed in
+      let taken : HasPassed c.take.new.self (before ++ so.more) = taken_next c.loop-made.self.entries c.take.new.self (before ++ so.more) c.take.ensures.takes so.passed in
       let behind_nothing : HasParcelBehind c.loop-made.self.names parcel [] c.in_ok-line.line.items =
       subst (λ out. HasParcelBehind c.loop-made.self.names parcel out c.in_ok-line.line.items) c.clear-in-loop-made.ensures.items c.in_ok-line.ensures.value in
       let named : HasParcelBehind c.args.self.now.names parcel [] c.in_ok-line.line.items =
