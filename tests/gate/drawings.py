@@ -212,7 +212,8 @@ PLACES = {
     "rad_packet": (2, 11),
 }
 # Between which columns an arrow goes down that would meet a crate in its target's column.
-GUTTERS = {("library_tests", "ledger_lines"): 3.5, ("rad_audit", "rad_console"): 4.5, ("rad_ledger", "rad_desk"): 3.5}
+GUTTERS = {("library_tests", "ledger_lines"): 3.5, ("rad_audit", "rad_console"): 4.5, ("rad_audit", "rad_log"): 1.5,
+           ("rad_ledger", "rad_desk"): 3.5}
 PROGRAMS = "rad_proxy", "rad_audit"
 MOST_CHARACTERS = 24
 LEGEND = ["An arrow leads to what a crate uses;", "it uses what that rests on too.", "In small type: libraries of the kit."]
@@ -245,7 +246,7 @@ def wrapped(words):
 class Plan:
     """Where the crates' boxes are, and the ways between them."""
 
-    WIDE, HIGH, COLUMN, ROW, LEFT, TOP = 166, 48, 190, 92, 14, 14
+    WIDE, HIGH, COLUMN, ROW, LEFT, TOP = 166, 48, 190, 97, 14, 14
 
     def __init__(self, pairs):
         self.pairs, self.lanes = pairs, {}

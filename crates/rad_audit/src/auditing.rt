@@ -13,7 +13,8 @@ use crate::kept_sums::KeptSums;
 use crate::line_room::{LineRoom, Piece};
 use crate::printing::{
     Asked, BackLine, BeforeLine, FatesLine, FilesLine, Findings, GapLine, HiddenLine, LaneLine,
-    LaneName, MissingFiles, Outputs, Place, RangesLine, Report, SumLine, TornLine, WrongLine,
+    LaneName, MissingFiles, NO_FINDINGS, Outputs, Place, RangesLine, Report, SumLine, TornLine,
+    WrongLine,
 };
 use crate::read_file::FileSoFar;
 use crate::runs::{Lane, Run, Runs};
@@ -59,14 +60,8 @@ where
         outputs,
         asked,
         findings: Findings {
-            wrong: false,
-            contradicted: false,
-            file: false,
-            gap: false,
-            part: false,
             nothing: true,
-            run: false,
-            unended: false,
+            ..NO_FINDINGS
         },
     };
     let Ok(mut audit) = Audit::new(alloc, config, sums, report) else {

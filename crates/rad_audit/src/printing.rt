@@ -183,6 +183,18 @@ pub struct Findings {
     pub unended: bool,
 }
 
+/// Findings that are none.
+pub const NO_FINDINGS: Findings = Findings {
+    wrong: false,
+    contradicted: false,
+    file: false,
+    gap: false,
+    part: false,
+    nothing: false,
+    run: false,
+    unended: false,
+};
+
 impl Findings {
     ghost use Rattle.std.specs.Prelude.{◌≡◌};
     ghost use Rattle.rad_audit.specs.Statuses.{found_in, status_at};

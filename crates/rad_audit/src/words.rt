@@ -102,44 +102,24 @@ fn command<'a>(alloc: Global) -> Result<Command<'a>, AllocError> {
     let command = Command::new(alloc, "rad_audit")
         .version(VERSION)
         .about("Audits ledgers of rad_proxy. rad_audit(1) says what it prints.")
-        .arg(rows_word(alloc))?;
-    let command = command.arg(from_word(alloc))?;
-    let command = command.arg(partial_word(alloc))?;
-    let command = command.arg(all_word(alloc))?;
+        .arg(flag(
+            alloc,
+            "rows",
+            "Print a row for each entry that is right, and all else on standard error",
+        ))?
+        .arg(flag(alloc, "from", "The first files of a run are left out"))?
+        .arg(flag(alloc, "partial", "They are, or not all of it can be judged"))?
+        .arg(flag(alloc, "all", "No run before another one is left out"))?;
     let command = command.arg(sum_word(alloc))?;
     let command = command.arg(config_word(alloc))?;
     command.arg(file_words(alloc))
 }
 
-/// Returns the word `--rows`.
-fn rows_word<'a>(alloc: Global) -> Arg<'a> {
-    Arg::new(alloc, "rows")
-        .long("rows")
-        .help("Print a row for each entry that is right, and all else on standard error")
-        .action(ArgAction::SetTrue)
-}
-
-/// Returns the word `--from`.
-fn from_word<'a>(alloc: Global) -> Arg<'a> {
-    Arg::new(alloc, "from")
-        .long("from")
-        .help("The first files of a run are left out")
-        .action(ArgAction::SetTrue)
-}
-
-/// Returns the word `--partial`.
-fn partial_word<'a>(alloc: Global) -> Arg<'a> {
-    Arg::new(alloc, "partial")
-        .long("partial")
-        .help("They are, or not all of it can be judged")
-        .action(ArgAction::SetTrue)
-}
-
-/// Returns the word `--all`.
-fn all_word<'a>(alloc: Global) -> Arg<'a> {
-    Arg::new(alloc, "all")
-        .long("all")
-        .help("No run before another one is left out")
+/// Returns the word `--` and this name, which takes no value.
+fn flag<'a>(alloc: Global, name: &'a str, help: &'a str) -> Arg<'a> {
+    Arg::new(alloc, name)
+        .long(name)
+        .help(help)
         .action(ArgAction::SetTrue)
 }
 
