@@ -29,7 +29,6 @@ ghost use Rattle.rad_audit.specs.declared.printing.Findings.{Findings as TheFind
 
 use auditing::audit_files;
 use faults::Fault;
-use kept_sums::KeptSums;
 use printing::{NO_FINDINGS, Outputs};
 use rad_console::{read_at_most, read_configuration};
 use rad_realms::Config;
