@@ -23,7 +23,7 @@ LIMITS, RINGS, WAKES, LEFT = "network/limits", "network/parallel_lanes", "timing
 # By source: each number, and what sees it: a test of a script, a row of tests/rows, or one of the above.
 NUMBERS = {
     "block_queue/src/block_queue.rt": {"MOST": ("0x8000_0000_0000_0000", PROVED)},
-    "ledger_files/src/batch.rt": {"SHARED": ("65_536", CHOICE), "THREADS": ("3", CHOICE)},
+    "ledger_files/src/batch.rt": {"SHARED": ("65_536", CHOICE), "LONG": ("2048", CHOICE), "THREADS": ("3", CHOICE)},
     "ledger_files/src/chain.rt": {"SUM_OCTETS": ("32", PROVED)},
     "ledger_files/src/rotation.rt": {"MOST_OCTETS": ("268_369_920", PROVED), "STAY": ("10_000", PROVED)},
     "ledger_files/src/utc.rt": {"DAY": ("86_400_000", PROVED), "DAYS_TO_1970": ("719_468", PROVED), "CYCLE": ("146_097", PROVED),

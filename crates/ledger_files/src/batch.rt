@@ -1,6 +1,6 @@
 //! The lines of entries that are put together before they are written.
 
-ghost use Rattle.std.specs.Prelude.{◌≡◌, ◌≤◌, vec_len};
+ghost use Rattle.std.specs.Prelude.{◌≡◌, ◌≤◌, ◌<◌, vec_len};
 
 use crate::chain::{Chain, SUM_OCTETS};
 use crate::digests::digest_lines;
@@ -10,8 +10,11 @@ use std::alloc::{AllocError, Global};
 use std::marker::Sync;
 use std::thread::Threads;
 
-/// From how many octets on the lines are shared out among threads to be digested.
+/// From how many octets on the lines are shared out among threads to be digested, if they are long.
 const SHARED: usize = 65_536;
+
+/// How many octets long lines have, on average.
+const LONG: usize = 2048;
 
 /// How many threads digest such lines, this one among them.
 const THREADS: usize = 3;
@@ -141,7 +144,7 @@ impl Batch {
         Ok(())
     }
 
-    /// Digests all lines, by a few threads if they are long together. Lines that were not digested are when they are passed.
+    /// Digests all lines, by a few threads if they are long and many. Lines that were not digested are when they are passed.
     ///
     /// # Errors
     ///
@@ -151,13 +154,10 @@ impl Batch {
         ensures all { OnOk result (vec_len self.new.digests ≡ vec_len self.old.ends) }
         ensures same { (self.new.done ≡ self.old.done) × (self.new.whole ≡ self.old.whole) × (self.new.octets ≡ self.old.octets) × (self.new.heads ≡ self.old.heads) × (self.new.ends ≡ self.old.ends) }
     {
-        let threads = if self.octets.len() < SHARED {
-            1
-        } else {
-            THREADS
-        };
         let octets = self.octets.as_slice();
-        digest_lines(rt, octets, self.ends.as_slice(), threads, &mut self.digests)?;
+        let ends = self.ends.as_slice();
+        let threads = threads_for(octets.len(), ends.len());
+        digest_lines(rt, octets, ends, threads, &mut self.digests)?;
         Ok(())
     }
 
@@ -212,5 +212,17 @@ impl Batch {
         ensures done { (self.new.done ≡ self.old.start) × (self.new.whole ≡ self.old.whole) }
     {
         self.done = self.start;
+    }
+}
+
+/// Returns how many threads digest so many lines, which have so many octets together. Short lines are digested in less time
+/// than threads take to start.
+fn threads_for(octets: usize, lines: usize) -> usize
+    ensures { 0 < result }
+{
+    if octets < SHARED || octets / LONG < lines {
+        1
+    } else {
+        THREADS
     }
 }

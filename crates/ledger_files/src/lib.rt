@@ -2,8 +2,8 @@
 //!
 //! A file is named `DATE-RUN-NNNNNN.jsonl` ([`FileName`]), and its lines have moments of UTC ([`UtcTime`]). [`Pending`] and
 //! [`Batch`] are lines that are to be written to a [`LedgerDisk`], and how far they are written. [`RunFiles`] writes them to
-//! the files of a run, and `specs/Runs.antt` says what these hold then; their [`Chain`] binds each line to all before it. [`is_next_due`] says when the next file is begun, and
-//! [`FileDay`] how a clock that went back counts.
+//! the files of a run, and `specs/Runs.antt` says what these hold then; their [`Chain`] binds each line to all before it.
+//! [`is_next_due`] says when the next file is begun, and [`FileDay`] how a clock that went back counts.
 #![tactic(auto)]
 
 mod batch;
