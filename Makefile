@@ -100,7 +100,7 @@ soak:
 	$(TESTS).network.lossy_network $(PROGRAM) --seconds $(SECONDS) $(SEED) || status=1; \
 	$(TESTS).faults.memory_leaks $(PROGRAM) --seconds $(SECONDS) || status=1; \
 	$(TESTS).network.lossy_network $(PROGRAM) --kills 50 $(SEED) || status=1; \
-	$(TESTS).ledger.written_ledgers $(PROGRAM) --long || status=1; \
+	$(TESTS).ledger.folders_and_writes $(PROGRAM) --long || status=1; \
 	exit $$status
 
 # Tries the recipes of examples/cluster/ and the container of examples/container/ with machines in namespaces, as root: the tests that

@@ -27,7 +27,7 @@ LONG = 65_536
 ITEM = 232
 MOST = 1.5
 MOST_BEYOND = 5.0
-LIBRARIES = ["queue_blocks", "block_queue"]
+LIBRARIES = ["raw_lists", "block_queue"]
 
 
 def build():

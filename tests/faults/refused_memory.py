@@ -218,10 +218,17 @@ def numbers_of(subject, number, is_alone):
     return {"FIRST": number, "LAST": number if is_alone else MOST_ALLOCATIONS}
 
 
+def empty_ledger(more):
+    """Removes the files of earlier runs, of which a run looks for the newest one: each would take memory."""
+    for file in pathlib.Path(more["RAD_PROXY_LEDGER"]).iterdir() if more else ():
+        file.unlink()
+
+
 def refused_in_turn(refuser, subject, is_alone):
     """Each run with one allocation or thread refused, or all from one on: the number of that one, and what came."""
     number = 1
     while number < MOST_ALLOCATIONS:
+        empty_ledger(subject.more)
         ran = refuser.run(subject.words, subject.given, subject.more, **numbers_of(subject, number, is_alone))
         if ran is None:
             return

@@ -94,7 +94,7 @@ def is_made(path):
     return path in MADE or bool(re.search(r"(^|/)out(/|$)|(^|/)[A-Z]+(/|-|\.|$)(?!/?(md|antt))", path))
 
 
-MADE = {"rad_proxy.toml", "proofs/Wire/hand_over/Answers.antt", "models.replay"}
+MADE = {"rad_proxy.toml", "proofs/pair/front/Answers.antt", "models.replay"}
 
 
 def lost_paths(page, text):

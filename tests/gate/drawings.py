@@ -202,17 +202,18 @@ PLACES = {
     "rad_telemetry": (2, 1), "rad_writer": (4, 1), "rad_audit": (5, 1),
     "rad_server": (2, 2), "ledger_lines": (4, 2), "ledger_files": (5, 2),
     "rad_replay": (1, 3), "rad_addresses": (2, 3), "rad_metrics": (3, 3), "rad_ledger": (4, 3),
-    "rad_console": (2, 4), "rad_log": (4, 4), "rad_simulation": (5, 4),
+    "rad_advice": (0, 4), "rad_console": (2, 4), "rad_simulation": (5, 4),
     "rad_desk": (3, 5),
-    "rad_rings": (3, 6), "rad_progress": (4, 6),
-    "rad_advice": (0, 7), "rad_lane": (3, 7),
+    "rad_log": (1, 6), "rad_locks": (3, 6), "rad_progress": (4, 6),
+    "rad_lane": (3, 7),
     "rad_realms": (2, 8), "block_queue": (3, 8), "rad_tables": (4, 8),
-    "rad_config": (2, 9), "queue_blocks": (3, 9),
+    "rad_config": (2, 9), "raw_lists": (3, 9),
     "rad_auth": (2, 10),
     "rad_packet": (2, 11),
 }
 # Between which columns an arrow goes down that would meet a crate in its target's column.
-GUTTERS = {("library_tests", "ledger_lines"): 3.5, ("rad_audit", "rad_console"): 4.5, ("rad_ledger", "rad_desk"): 3.5}
+GUTTERS = {("library_tests", "ledger_lines"): 3.5, ("rad_audit", "rad_console"): 4.5, ("rad_audit", "rad_log"): 1.5,
+           ("rad_ledger", "rad_desk"): 3.5}
 PROGRAMS = "rad_proxy", "rad_audit"
 MOST_CHARACTERS = 24
 LEGEND = ["An arrow leads to what a crate uses;", "it uses what that rests on too.", "In small type: libraries of the kit."]
@@ -245,7 +246,7 @@ def wrapped(words):
 class Plan:
     """Where the crates' boxes are, and the ways between them."""
 
-    WIDE, HIGH, COLUMN, ROW, LEFT, TOP = 166, 48, 190, 92, 14, 14
+    WIDE, HIGH, COLUMN, ROW, LEFT, TOP = 166, 48, 190, 97, 14, 14
 
     def __init__(self, pairs):
         self.pairs, self.lanes = pairs, {}

@@ -24,6 +24,8 @@ import sys
 import tempfile
 
 from tests.lib import TOP, Lane, Run, text
+from tests.lib.ledger.chained_cases import sealed
+from tests.lib.ledgers import chained, hidden
 
 SECONDS = 300
 HOME, NAS = b"home-secret", b"nas-secret"
@@ -39,8 +41,8 @@ secret = "home-secret"
 
 MODEL = TOP / "tests" / "lib" / "audit_model.py"
 
-# How much is spoiled where the model reads it too.
-SPOILED = 4000
+# How much is spoiled where the model reads it too, and one line of how many is left out.
+SPOILED, HIDDEN = 4000, 50
 
 # How many lines stand between two that are right, at most, and how many entries are read for the speed.
 APART = 20
@@ -150,16 +152,19 @@ def of_spoiled(program, folder, count, seed):
         reason = told.get(number)
         if (reason is None) != (reasons is None) or (reasons and reason not in reasons):
             yield f"line {number}: {reason}, and not of {reasons}: {line[:200]}"
-    last = f"run a0b1c2d3e4f50617 lane 0 h1 from 0 entries {entries} not judged 0 whole"
+    last = f"run a0b1c2d3e4f50617 lane 0 h1 from 0 entries {entries} not judged 0 part"
     if printed[-1:] != [last] or err or status != 5:
         yield f"{printed[-1:]} {err!r} {status}, and not {last}"
 
 
 def of_octets(program, folder, seed):
-    """Octets of a ledger changed, put in and taken out by chance, also in the lines that begin and end it: what differs from the model."""
+    """Octets of a ledger with sums changed, put in and taken out by chance, also in the lines that begin and end it, and some lines left
+    out: what differs from the model."""
     chance, printed = random.Random(seed), []
     lines, _ = spoiled(chance, SPOILED // 2)
-    content = bytearray("".join(f"{line}\n" for line, _ in lines).encode())
+    first, *rest = sealed({"ledger": "".join(f"{line}\n" for line, _ in lines)})["ledger"].split("\n")[:-1]
+    rest = [hidden(line) if chance.randrange(HIDDEN) == 0 else line for line in rest]
+    content = bytearray(text([first, *rest]).encode())
     for _ in range(SPOILED // 2):
         at = chance.randrange(len(content))
         content[at : at + chance.randrange(2)] = bytes(chance.randrange(256) for _ in range(chance.randrange(2)))
@@ -179,11 +184,12 @@ def of_memory(program, folder):
     """More entries than fit the memory that the program has, a line that is as long as all of it, and one without an end."""
     run = Run(1, [Lane(0, "h1", HOME)])
     lines = [run.begin(), *(run.entry(client=("192.0.2.10", NAS), more=bytes([26, 122]) + bytes(120)) for _ in range(ENTRIES))]
+    *lines, end = chained([*lines, run.end()])
     (folder / "config.toml").write_text(CONFIG)
     (folder / "a").write_text(text(lines))
     with open(folder / "b", "wb") as long:
         long.seek(MEMORY)
-        long.write(b"\n" + text([run.end()]).encode())
+        long.write(b"\n" + text([end]).encode())
         long.seek(2 * MEMORY, 1)
         long.write(b"?")
     limit = lambda: resource.setrlimit(resource.RLIMIT_AS, (MEMORY, MEMORY))
@@ -224,7 +230,7 @@ def of_places(program, folder):
 def of_speed(program, folder):
     run = Run(1, [Lane(0, "h1", HOME)])
     lines = [run.begin(), *(run.entry(client=("192.0.2.10", NAS), more=bytes([26, 122]) + bytes(120)) for _ in range(ENTRIES)), run.end()]
-    printed, err, status, took = read(program, folder, text(lines))
+    printed, err, status, took = read(program, folder, text(chained(lines)))
     a_second = ENTRIES / max(took, 0.001)
     print(f"{ENTRIES} entries in {took:.2f} s of processor time: {a_second:.0f} a second")
     if status != 0 or a_second < LEAST:

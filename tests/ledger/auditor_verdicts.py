@@ -9,8 +9,9 @@ import subprocess
 import sys
 import tempfile
 
-from tests.lib import TOP, ledgers, text
-from tests.lib.ledger_cases import LEFT_REASONS, NAME, REASONS, accounts, config, counted, lines_of, one, runs, tampered
+from tests.lib import TOP, audit_model, ledgers, text
+from tests.lib.ledger.chained_cases import all_cases
+from tests.lib.ledger.cases import NAME, config, counted, lines_of, one
 
 SECONDS = 60
 
@@ -22,12 +23,17 @@ def calls(folder):
     bad.write_text("listen = 1\n")
     long.write_text("#" * 1048577)
     (folder / "none.jsonl").write_text("")
-    usage = "usage: rad_audit [--rows] [--from] [--partial] CONFIG FILE.."
+    usage, word = audit_model.USAGE, f"{NAME:016x}:0:{'0' * 64}"
     yield [], usage, 1
     yield [str(good)], usage, 1
-    yield ["--all", str(good), "x"], usage, 1
-    yield ["--from", "--partial", str(good)], usage, 1
-    yield ["--from", "--from", str(good), "none.jsonl"], usage, 1
+    yield ["--every", str(good), "x"], usage, 1
+    yield ["--from", "--partial", "--all", str(good)], usage, 1
+    for asked in "--from", "--partial", "--all":
+        yield [asked, asked, str(good), "none.jsonl"], usage, 1
+    yield [str(good), "none.jsonl", "--sum"], usage, 1
+    for wrong in (word[1:], word[:-1], f"{word}0", word.replace(":0:", "::"), word.replace(":0:", ":-1:"), word.replace(":0:", f":{2**64}:"),
+                  word.replace(":0:", ":"), f"g{word[1:]}", f"{word[:-1]}g", ""):
+        yield ["--sum", wrong, str(good), "none.jsonl"], usage, 1
     yield [str(folder / "absent.toml"), "none.jsonl"], f"file: {folder}/absent.toml", 4
     yield [str(folder), "none.jsonl"], f"file: {folder}", 4
     yield [str(long), "none.jsonl"], f"file: {long}", 4
@@ -67,14 +73,13 @@ def to_full_disk(program, folder):
 
 def shown(program):
     """The name of each case, and what was wrong with it: nothing where it is as it has to be."""
-    cases = [(name, *case) for name, case in {**REASONS, **LEFT_REASONS}.items()] + [tuple(case) for case in [*runs(), *accounts(), *tampered()]]
-    for name, files, lines, status, *rest in cases:
+    for name, files, lines, status, configuration, words in all_cases():
         with tempfile.TemporaryDirectory() as made:
             folder = pathlib.Path(made)
-            (folder / "config.toml").write_text(rest[0] if rest else config())
+            (folder / "config.toml").write_text(configuration)
             for file, content in files.items():
                 (folder / file).write_bytes(content.encode("utf-8", "surrogateescape"))
-            found = audited(program, [*(rest[1] if rest[1:] else ()), "config.toml", *files], folder)
+            found = audited(program, [*words, "config.toml", *files], folder)
         wanted = "".join(f"{line}\n" for line in lines), "", status
         yield name, None if found == wanted else f"{found}\nand not {wanted}"
     with tempfile.TemporaryDirectory() as made:

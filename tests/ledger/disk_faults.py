@@ -10,8 +10,8 @@ import os
 import re
 import time
 
-from tests.ledger.written_ledgers import PATIENCE, Steered, Trial
 from tests.lib import ACCT_SESSION_ID, HOME_SECRET, NAS_SECRET, START, answer, attribute, built, hope, request, try_named, until
+from tests.lib.ledger.trials import PATIENCE, Steered, Trial
 
 # How long syncs fail, and for how long at least the number then says so.
 FAILS, UNSYNCED = 8, 4.0
@@ -166,7 +166,7 @@ def a_disk_that_takes_all_but_the_end_is_told(trial):
     writes(trial, 100)
     with failing.on():
         end_of(trial)
-    hope("what is told", [line for line in trial.log.read_text().splitlines() if "ledger-fault" not in line], ["level=error event=ledger-left count=0"])
+    hope("what is told", [line for line in trial.log_lines() if "ledger-fault" not in line], ["level=error event=ledger-left count=0"])
     hope("verdict", trial.verdict(), "open")
 
 
@@ -176,11 +176,12 @@ def a_slow_disk_has_ten_seconds(trial):
     hope("acknowledged", trial.ask(300), 300)
     end_of(trial)
     trial.is_all_there()
-    hope("what is told", trial.log.read_text(), "")
+    hope("what is told", trial.log_lines(), [])
 
 
 def a_clock_that_stays_away_leaves_all_in_the_ledger(trial):
-    """Where the clock fails for good at the end of the input, what is left is written all the same, to a slow disk too."""
+    """Where the clock fails for good at the end of the input, what is left is written all the same, to a slow disk too, and no line is
+    earlier than the first."""
     out = trial.room / "out"
     loaded = ":".join(built(trial.room, name) for name in ("slow_files", "wrong_clock"))
     trial.begin(LD_PRELOAD=loaded, CLOCK_OUT=str(out), SLOW_PATH=str(trial.folder), SLOW_WRITE="400")
@@ -194,6 +195,8 @@ def a_clock_that_stays_away_leaves_all_in_the_ledger(trial):
     end_of(trial, 4)
     kinds = [line["type"] for line in trial.ledger_lines()]
     hope("lines", [kinds.count(kind) for kind in ("entry", "left", "end")], [30, 20, 0])
+    times = [line["time"] for line in trial.ledger_lines()]
+    hope("the earliest line", min(times), times[0])
 
 
 def labelled(trial, name, label=""):

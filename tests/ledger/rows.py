@@ -8,14 +8,14 @@ import re
 import subprocess
 from urllib.parse import unquote_to_bytes
 
-from tests.lib import TOP, Lane, Run, attribute, hope, need, packets, read, text, try_in_folders
-from tests.lib import ledger_cases as cases
+from tests.lib import TOP, Lane, Run, attribute, audit_model, hope, need, packets, read, text, try_in_folders
+from tests.lib.ledger import cases, left_cases
+from tests.lib.ledger.chained_cases import all_cases, sealed
 from tests.lib.packets import ACCT_SESSION_ID, ACCT_STATUS_TYPE, USER_NAME
 from tools.version import VERSION
 
 SECONDS = 60
 INPUT_OCTETS, OUTPUT_OCTETS, SESSION_TIME, INPUT_GIGAWORDS, OUTPUT_GIGAWORDS = 42, 43, 46, 52, 53
-USAGE = "usage: rad_audit [--rows] [--from] [--partial] CONFIG FILE.."
 
 # Values that a word can't have as they are, or that look like others: as the user's name and as the session.
 VALUES = [*packets.WORDS, b"-", b"--", b" - ", b"a\tb", b"a\nb", b"a\r\n", b"a\\tb", b"\\N", b"\\", b"%", b"%2d", b"a%09b", b"=\"'", b" ",
@@ -99,7 +99,7 @@ def told(program, folder, files, config=cases.config(), words=()):
 
 def compare(program, folder, files, status=0, wrong=()):
     """Compares the rows of files of lines with those that Python makes."""
-    rows, _, ended = told(program, folder, {file: text(lines) for file, lines in files.items()})
+    rows, _, ended = told(program, folder, sealed({file: text(lines) for file, lines in files.items()}))
     wanted = rows_of(files, wrong)
     for found, other in zip(rows, wanted):
         hope("row", found, other)
@@ -197,7 +197,7 @@ def no_row_of_what_is_wrong(program, folder):
     mixed = [lines[0], lines[1], cases.turned(lines[2], "sent", 7), lines[4], lines[3], lines[5], lines[7]]
     compare(program, folder, {"ledger": mixed}, 5, {("ledger", 3), ("ledger", 5)})
     cut = text(lines[1:2])[:99]
-    rows, told_lines, status = told(program, folder, {"ledger": text(lines[:1]) + cut + "\n" + text(lines[1:3]) + cut})
+    rows, told_lines, status = told(program, folder, sealed({"ledger": text(lines[:1]) + cut + "\n" + text(lines[1:3]) + cut}))
     hope("rows", rows, [row("ledger", 3, lines[1]), row("ledger", 4, lines[2])])
     hope("lines", told_lines[:2], ["ledger:2: torn", "ledger:5: torn"])
     hope("status", status, 6)
@@ -205,25 +205,24 @@ def no_row_of_what_is_wrong(program, folder):
 
 def what_was_left(program, folder):
     """Requests that were left, with their state and no serial, with words of every kind; none of one that is wrong."""
-    compare(program, folder, {"ledger": cases.some_left()})
+    compare(program, folder, {"ledger": left_cases.some_left()})
     run = Run(cases.NAME, [Lane(7, "h1", cases.HOME)])
-    lines = [run.begin(), *(run.left(state=state, user=value, session=value) for value in VALUES if value for state in cases.STATES), run.end()]
+    lines = [run.begin(), *(run.left(state=state, user=value, session=value) for value in VALUES if value for state in left_cases.STATES), run.end()]
     compare(program, folder, {"ledger": lines})
-    for files, _, status in cases.LEFT_REASONS.values():
-        rows, told_lines, ended = told(program, folder, files)
+    for files, _, status in left_cases.LEFT_REASONS.values():
+        rows, told_lines, ended = told(program, folder, sealed(files))
         wrong = int(told_lines[0].split(":")[1])
         hope("places", [int(line.split("\t")[1]) for line in rows], [place for place in range(2, 8) if place != wrong])
         hope("status", ended, status)
 
 
 def every_audit(program, folder):
-    """With rows, the other lines and the status of each case of ledger_cases.py, and a row for each entry that is right."""
-    all_of_them = [*cases.REASONS.values(), *(case[1:] for case in cases.runs())]
-    for files, lines, status, *rest in all_of_them:
-        rows, found, ended = told(program, folder, files, rest[0] if rest else cases.config(), *rest[1:])
-        hope("lines", (found, ended), (lines, status))
+    """With rows, the other lines and the status of each case of chained_cases.py, and a row for each entry that is right."""
+    for name, files, lines, status, config, words in all_cases():
+        rows, found, ended = told(program, folder, files, config, words)
+        hope(name, (found, ended), (lines, status))
         counts = (re.search(r" entries (\d+) not judged ", line) for line in lines)
-        hope("rows", len(rows), sum(int(count[1]) for count in counts if count))
+        hope(f"rows of {name}", sum(row.endswith("\tanswered") for row in rows), sum(int(count[1]) for count in counts if count))
 
 
 def where_nothing_can_be_printed(program, folder):
@@ -244,7 +243,7 @@ def what_cannot_be_read(program, folder):
     out, err, status = ran(program, folder, ["--rows", "config.toml", "ledger", "absent"])
     hope("absent", (out.decode().splitlines(), err, status), (rows_of({"ledger": lines}), b"file: absent\n", 4))
     for words in (["--rows"], ["--rows", "config.toml"], ["--rows", "--rows", "config.toml", "ledger"], ["--row", "config.toml", "ledger"]):
-        hope(f"{words}", ran(program, folder, words), (b"", f"{USAGE}\n".encode(), 1))
+        hope(f"{words}", ran(program, folder, words), (b"", f"{audit_model.USAGE}\n".encode(), 1))
     hope("behind", ran(program, folder, ["config.toml", "ledger", "--rows"])[0].decode().splitlines(), rows_of({"ledger": lines}))
 
 

@@ -1,7 +1,7 @@
 #!/usr/bin/env python3
 """What `rad_audit` answers, written a second time: from docs/formats.md, by Python's datetime, json, hashlib and tomllib.
 
-usage: audit_model.py [--from] [--partial] CONFIG FILE..    audits as the program does
+usage: audit_model.py [--from] [--partial] [--all] [--sum RUN:FILE:SUM].. CONFIG FILE..    audits as the program does
 
 Of a configuration it looks at the addresses, names and secrets alone.
 """
@@ -17,7 +17,8 @@ MOST_CONFIG, MOST_LINE = 1_048_576, 65_536
 REQUEST, RESPONSE, PROXY_STATE, MESSAGE_AUTHENTICATOR = 4, 5, 33, 80
 USER_NAME, STATUS_TYPE, SESSION_ID = 1, 40, 44
 MOST_RANGES = 4096
-USAGE = "usage: rad_audit [--rows] [--from] [--partial] CONFIG FILE.."
+WORDS_THAT_ASK = "--from", "--partial", "--all"
+USAGE = "usage: rad_audit [--rows] [--from] [--partial] [--all] [--sum RUN:FILE:SUM].. CONFIG FILE.."
 # The exit status of each finding: the first of these that was found.
 STATUSES = {"wrong": 5, "contradicted": 9, "file": 8, "gap": 3, "part": 7, "nothing": 10, "open": 6}
 OCTETS, ADDRESS = re.compile(r"([0-9a-fA-F]{2})*"), re.compile(r"(0|[1-9][0-9]{0,2})(\.(0|[1-9][0-9]{0,2})){3}")
@@ -29,7 +30,8 @@ OPTIONAL = WORDS | {f"{word}_octets" for word in WORDS} | {"status"}
 LEFT = HEAD | {"home", "lane", "record", "client", "port", "identifier", "authenticator", "state", "request"}
 STATES = {"queued", "outstanding", "untaken"}
 LIMITS = {"lane": 2**16, "serial": 2**63, "record": 2**64, "port": 2**16, "identifier": 2**8, "status": 2**32, "file": 2**64, "entries": 2**64,
-          "accepted": 2**64, "left": 2**64, "sendings": 2**32}
+          "accepted": 2**64, "left": 2**64, "sendings": 2**32, "octets": 2**64}
+SHA_256 = re.compile("[0-9a-fA-F]{64}")
 
 
 class Ends(Exception):
@@ -107,6 +109,21 @@ def read_request(keys, least, more, line):
     need(re.fullmatch("[0-9a-fA-F]{32}", line["authenticator"]))
 
 
+def read_sum(line, key):
+    need(type(line[key]) is str and SHA_256.fullmatch(line[key]))
+
+
+def read_sums(line):
+    """The sum of a line, and the file of another run that it names, if it has them."""
+    if "sum" in line:
+        read_sum(line, "sum")
+    if "before" in line:
+        before = line["before"]
+        need(type(before) is dict and set(before) == {"name", "octets", "sha256"})
+        are_right({"name", "octets"}, before)
+        read_sum(before, "sha256")
+
+
 def read_line(octets):
     """The members of a line."""
     need(len(octets) <= MOST_LINE)
@@ -114,17 +131,24 @@ def read_line(octets):
         line = json.loads(octets.decode("utf-8"), object_pairs_hook=members, parse_int=whole, parse_float=no_number, parse_constant=no_number)
     except (ValueError, RecursionError):
         raise NoLine from None
-    need(type(line) is dict and HEAD <= set(line))
+    need(type(line) is dict)
+    if line.get("type") == "hidden":
+        need(set(line) == {"type", "sum"})
+        read_sum(line, "sum")
+        return line
+    need(HEAD <= set(line))
     are_right(HEAD, line)
     need(re.fullmatch("[0-9a-fA-F]{16}", line["run"]) and is_time(line["time"]))
     keys, kind = set(line), line["type"]
     need(kind in ("begin", "entry", "left", "end"))
     if kind == "begin":
-        need(keys == HEAD | {"version", "file", "lanes"})
+        need(keys - {"sum", "before"} == HEAD | {"version", "file", "lanes"})
         are_right({"version", "file"}, line)
+        read_sums(line)
         read_lanes(line, {"lane", "home", "serial"})
     elif kind == "end":
-        need(keys == HEAD | {"lanes"})
+        need(keys - {"sum"} == HEAD | {"lanes"})
+        read_sums(line)
         read_lanes(line, {"lane", "entries"}, {"lane", "entries", "accepted", "left"})
     elif kind == "entry":
         read_request(keys, ENTRY, set(), line)
@@ -211,11 +235,33 @@ class Numbers:
             self.ranges, self.exact_from = self.ranges - 1, max(self.exact_from, first)
 
 
+class Chain:
+    """The chain of a run: the sum of its lines, from the last `begin` on. There is none if that has no sum."""
+
+    def __init__(self):
+        self.sum, self.next, self.hidden, self.is_bare = bytes(32), 0, 0, False
+
+    def begin(self, file, told):
+        """Whether the sum of a `begin` is right; the chain goes on from it."""
+        if told is None:
+            is_right = self.next == 0 or self.sum is None
+        else:
+            is_right = file > self.next or file == self.next and self.sum in (None, told)
+        self.sum, self.next = told, min(file + 1, 2**64 - 1)
+        self.is_bare = self.is_bare or told is None
+        return is_right
+
+    def add(self, digest):
+        if self.sum is not None:
+            self.sum = hashlib.sha256(self.sum + digest).digest()
+
+
 class Audit:
     """What is known of the runs, and what was printed."""
 
-    def __init__(self, config, asked=()):
-        self.asked, self.found, self.files = asked, set(), {}
+    def __init__(self, config, asked=(), sums=()):
+        self.asked, self.found, self.files, self.before, self.newest = asked, set(), {}, {}, {}
+        self.chains, self.sums, self.kept, self.last = {}, sums, set(), None
         self.homes = {home["name"]: home["secret"].encode() for home in config["home"]}
         self.clients = {client["address"]: client["secret"].encode() for client in config["client"]}
         self.runs, self.printed = {}, []
@@ -312,32 +358,62 @@ class Audit:
             if lane["next"] < lane["end"]:
                 self.lacks(place, named(run, lane), lane["next"], lane["end"] - 1)
 
-    def take(self, place, line):
-        if line["type"] == "entry":
+    def see(self, run):
+        """Looks whether the sum that a run has now is one that was kept."""
+        chain = self.chains[run]
+        self.kept |= {it for it in self.sums if chain.sum is not None and it[1:] == (run, max(chain.next - 1, 0), chain.sum)}
+
+    def chain(self, place, line, octets):
+        """Adds a line to the chain of its run, and judges its sum."""
+        kind, told = line["type"], bytes.fromhex(line["sum"]) if "sum" in line else None
+        run = self.last if kind == "hidden" else line["run"].lower()
+        if kind == "begin":
+            self.chains.setdefault(run, Chain())
+        chain = self.chains.get(run)
+        if chain is None:
+            return self.is_wrong(place, "UnknownLane") if kind == "hidden" else None
+        self.last = run
+        is_right = chain.begin(line["file"], told) if kind == "begin" else kind != "end" or chain.sum is None or chain.sum == told
+        self.see(run)
+        chain.add(told if kind == "hidden" else hashlib.sha256(octets + b"\n").digest())
+        chain.hidden += kind == "hidden"
+        self.see(run)
+        if not is_right:
+            self.is_wrong(place, "WrongSum")
+
+    def take_begin(self, place, begin):
+        fresh = {"gap": None, "end": None, "told": None, "entries": 0, "left": 0, "not judged": 0, "last": "", "back": 0}
+        run, file = begin["run"].lower(), begin["file"]
+        self.head = self.head or (run, file)
+        first, following = self.files.get(run, (file, file))
+        if file > following:
+            self.printed.append(f"{place}: run {run} files {following} to {file - 1} missing")
+            self.found.add("file")
+        self.files[run] = first, max(following, min(file + 1, 2**64 - 1))
+        if run not in self.runs:
+            self.before[run] = begin.get("before")
+            self.runs[run] = [{**lane, **fresh, "numbers": Numbers(), "events": [], "next": lane["serial"]} for lane in begin["lanes"]]
+
+    def take(self, place, line, octets):
+        kind = line["type"]
+        if kind == "begin":
+            self.take_begin(place, line)
+        self.chain(place, line, octets)
+        if kind == "entry":
             self.take_entry(place, line)
-        elif line["type"] == "left":
+        elif kind == "left":
             self.take_left(place, line)
-        elif line["type"] == "end":
+        elif kind == "end":
             self.take_end(place, line)
-        else:
-            fresh = {"gap": None, "end": None, "told": None, "entries": 0, "left": 0, "not judged": 0, "last": "", "back": 0}
-            run, file = line["run"].lower(), line["file"]
-            first, following = self.files.get(run, (file, file))
-            if file > following:
-                self.printed.append(f"{place}: run {run} files {following} to {file - 1} missing")
-                self.found.add("file")
-            self.files[run] = first, max(following, min(file + 1, 2**64 - 1))
-            lanes = [{**lane, **fresh, "numbers": Numbers(), "events": [], "next": lane["serial"]} for lane in line["lanes"]]
-            self.runs.setdefault(run, lanes)
 
     def read(self, file, octets):
         """Reads the lines of a file."""
         *lines, last = octets.split(b"\n")
-        followers = [*lines[1:], last]
+        followers, self.head = [*lines[1:], last], None
         for number, (line, behind) in enumerate(zip(lines, followers), 1):
             place = f"{shown(file)}:{number}"
             try:
-                self.take(place, read_line(line))
+                self.take(place, read_line(line), line)
             except NoLine:
                 if len(line) <= MOST_LINE and len(line) < len(behind) and behind.startswith(line):
                     self.printed.append(f"{place}: torn")
@@ -345,6 +421,10 @@ class Audit:
                     self.is_wrong(place, "NotEntry")
         if last:
             self.printed.append(f"{shown(file)}:{len(lines) + 1}: torn")
+        if self.head is not None:
+            run, number = self.head
+            if number >= self.newest.get(run, (0, b""))[0]:
+                self.newest[run] = number, octets
 
     def end(self):
         """Tells of each lane, and gives the status."""
@@ -353,6 +433,10 @@ class Audit:
         for run, lanes in self.runs.items():
             for lane in lanes:
                 self.tell(run, lane)
+            self.tell_of_all(run)
+        for kept in self.sums:
+            if kept not in self.kept:
+                self.is_wrong(kept[0], "WrongSum")
         return next((status for finding, status in STATUSES.items() if finding in self.found), 0)
 
     def tell(self, run, lane):
@@ -360,7 +444,7 @@ class Audit:
         gap = lane["gap"]
         if gap is None and lane["end"] is not None and lane["next"] < lane["end"]:
             gap = lane["next"], lane["end"] - 1
-        late, unknown = bool(lane["serial"] or self.files[run][0]), bool(lane["not judged"])
+        late, unknown = bool(lane["serial"] or self.files[run][0]), bool(lane["not judged"] or self.chains[run].is_bare)
         if is_contradicted(lane):
             verdict = "contradicted"
         elif gap:
@@ -380,6 +464,26 @@ class Audit:
             self.printed.append(f"{named(run, lane)} more than {MOST_RANGES} ranges")
         if lane["back"]:
             self.printed.append(f"{named(run, lane)} steps back in time {lane['back']}")
+
+    def tell_of_all(self, run):
+        """Tells of a run what is told of all its lanes together."""
+        if self.chains[run].hidden:
+            self.printed.append(f"run {run} hidden {self.chains[run].hidden}")
+            if "--partial" not in self.asked:
+                self.found.add("part")
+        before = self.before[run]
+        if before is not None and not self.has(before):
+            self.printed.append(f"run {run} before {shown(before['name'])} missing")
+            if "--all" in self.asked:
+                self.found.add("nothing")
+
+    def has(self, before):
+        """Whether the file that a line names was read: the last one of its run, of as many octets, and with `--all` of that SHA-256."""
+        found = re.fullmatch(r"(?s:.*)([0-9a-fA-F]{16})-(\+?[0-9]+)\.jsonl", before["name"])
+        number, octets = self.newest.get(found[1].lower(), (None, b"")) if found else (None, b"")
+        if number is None or number != int(found[2]) or len(octets) != before["octets"]:
+            return False
+        return "--all" not in self.asked or hashlib.sha256(octets).hexdigest() == before["sha256"].lower()
 
 
 def is_contradicted(lane):
@@ -425,15 +529,30 @@ def configured(path):
     return config
 
 
+def kept_sums(words):
+    """The sums that words name, each with its word; and the other words."""
+    sums, words = [], [*words]
+    while "--sum" in words[:-1]:
+        at = words.index("--sum")
+        word = words[at + 1]
+        found = re.fullmatch(r"([0-9a-fA-F]{16}):(\+?[0-9]+):([0-9a-fA-F]{64})", word)
+        if found is None or int(found[2]) >= 2**64:
+            return None, words
+        sums.append((word, found[1].lower(), int(found[2]), bytes.fromhex(found[3])))
+        del words[at : at + 2]
+    return sums, words
+
+
 def main(words):
     """Audits, and gives the status."""
-    asked, given = [word for word in words if word in ("--from", "--partial")], [word for word in words if word not in ("--from", "--partial")]
-    if len(given) < 2 or len(asked) != len(set(asked)) or any(word.startswith("-") for word in given):
+    asked = [word for word in words if word in WORDS_THAT_ASK]
+    sums, given = kept_sums([word for word in words if word not in WORDS_THAT_ASK])
+    if sums is None or len(given) < 2 or len(asked) != len(set(asked)) or any(word.startswith("-") for word in given):
         print(USAGE, file=sys.stderr)
         return 1
     audit, fault = None, None
     try:
-        audit = Audit(configured(given[0]), asked)
+        audit = Audit(configured(given[0]), asked, sums)
         for path in given[1:]:
             audit.read(path, read_file(path))
         status = audit.end()

@@ -1,4 +1,5 @@
 """Makes the lines of ledgers, by Python's hashlib and json alone."""
+import hashlib
 import json
 
 from tests.lib import packets
@@ -124,6 +125,36 @@ def text(lines):
     return "".join(f"{line if isinstance(line, str) else json.dumps(line, **how)}\n" for line in lines)
 
 
+def digest(line):
+    """The SHA-256 of a line, with its line end."""
+    return hashlib.sha256(text([line]).encode("utf-8", "surrogateescape")).digest()
+
+
+def hidden(line):
+    """What stands in the place of a line that is left out."""
+    return {"type": "hidden", "sum": digest(line).hex()}
+
+
+def sum_of(lines, before=bytes(32)):
+    """The sum behind lines of a run, with this sum before them. What was cut short, which is a text here, is not in it."""
+    for line in lines:
+        if isinstance(line, dict):
+            before = hashlib.sha256(before + (bytes.fromhex(line["sum"]) if line["type"] == "hidden" else digest(line))).digest()
+    return before
+
+
+def chained(lines, before=bytes(32)):
+    """The lines of a run, with the sum before each line that begins a file or ends the run."""
+    made = []
+    for line in lines:
+        if isinstance(line, dict) and line["type"] in ("begin", "end"):
+            lanes = line["lanes"]
+            line = {**{key: value for key, value in line.items() if key != "lanes"}, "sum": before.hex(), "lanes": lanes}
+        made.append(line)
+        before = sum_of([line], before)
+    return made
+
+
 EXAMPLE = TOP / "examples" / "one-home.jsonl"
 CLIENT = "192.0.2.10", b"one long random text for this NAS"
 SECRET = b"one long random text for this home server"
@@ -135,4 +166,4 @@ def example():
     lines = [run.begin()]
     lines += [run.entry(client=CLIENT, session=b"4f2a", status=status) for status in (1, 3, 2)]
     lines += [run.entry(client=CLIENT, session=b"\xff\x00", user=b"bob", more=attribute(packets.PROXY_STATE, b"abc"))]
-    return text([*lines, run.end()])
+    return text(chained([*lines, run.end()]))

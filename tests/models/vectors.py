@@ -39,6 +39,11 @@ def of_ledgers():
     for at, realm in enumerate(forms):
         words = {**ledgers.worded("realm", realm), **ledgers.worded("session", forms[(at + 3) % len(forms)])}
         lines += [{**ends.head("entry"), **least, **words, **empty}]
+    first, last = run.begin(), run.end_of_all()
+    before = {"name": "2026-01-30-0123456789abcdef-000007.jsonl", "octets": 2**64 - 1, "sha256": bytes(range(224, 256)).hex()}
+    bound = ledgers.chained([first, last], bytes(range(32)))
+    lanes = bound[0].pop("lanes")
+    lines += [*bound[1:], {**bound[0], "lanes": lanes}, {**bound[0], "before": before, "lanes": lanes}]
     return {"LINES": [ledgers.text([line])[:-1] for line in lines]}
 
 

@@ -4,6 +4,7 @@ usage: python3 -m tests.network.limits PROGRAM [TEST ..]
 
 Each test is a function below, and its first line tells what holds. The last line is `N passed, M failed`.
 """
+import contextlib
 import json
 import pathlib
 import re
@@ -14,7 +15,7 @@ import sys
 import time
 
 from tests.lib import (ACCT_STATUS_TYPE, HERE, NOTHING_LEFT, PATIENCE, SECRET, STATUS_SERVER, Home, Proxy, Server, Stage, answer, attribute,
-                       bound, built, classes, configured, environment, free_port, hope, is_so, loads, mark, need, read, request,
+                       bound, built, classes, configured, environment, flooded, free_port, hope, is_so, loads, mark, need, read, request,
                        states_of, try_in_folders, until, user_name)
 
 # The greatest numbers of a configuration, and how many requests pass one lane.
@@ -23,6 +24,12 @@ HOMES, CLIENTS, PORTS, LONGEST, MANY = 64, 256, 4, 4096, 70_000
 ENDS = (1 << 31, 1 << 32)
 LONGEST_LINGER, LONGEST_SPAN, LONGEST_RING = 65_536, 600_000, 4096
 HALF_OF_A_BOOK = 65_536
+# How many datagrams flood a worker, and for how many seconds at most.
+MILLION, FLOODED = 1_000_000, 180
+# Over how many lanes responses are sent slowly, and how many of each.
+SENDING_LANES, SENT_EACH = 4, 60
+# How many other sockets the machine has, and behind how many of them that of the program stands.
+TABLE, BEHIND = 600, 300
 # How many responses the front sends together, at most.
 AT_ONCE = 9
 # How many milliseconds before and behind a moment it is looked, and how many seconds nothing may come.
@@ -371,6 +378,65 @@ def the_longest_ring_fills(program, folder):
         need(not is_so(lambda: answers() != full, 0.5), "more is heard")
 
 
+def workers_go_on_behind_a_million_turns(program, folder):
+    """Where more than a million datagrams came to the front, and to a lane, each of which is a turn, both serve on."""
+    with Stage(program, folder, "first_wait = 60000\n") as stage:
+        asked = stage.nas.ask()
+        packet, sender = stage.came()
+        with flooded(stage.proxy.listen, sender):
+            until("a million", lambda: min(sum(values(stage, name)) for name in ("dropped_total", "unheard_total")) > MILLION, FLOODED)
+        stage.homes[0].answer(packet, sender)
+        need(stage.nas.is_answered(asked), "another response came")
+        need(served(stage, 0), "not answered behind them")
+
+
+def responses_of_the_least_ring_are_measured(program, folder):
+    """With a ring of one a response that the front is still sending, and the one behind it in the ring, are both measured."""
+    nas = bound()
+    slow = {"LD_PRELOAD": built(folder, "slow_files"), "SLOW_PORT": str(nas.getsockname()[1]), "SLOW_SEND": "2"}
+    with Stage(program, folder, "ring = 1\nwindow = 200\nfirst_wait = 60000\n", SENDING_LANES, variables=slow) as stage, nas:
+        stage.nas.socket.close()
+        stage.nas.socket = nas
+        nas.setblocking(False)
+        # The front sends eight datagrams together, those of the Status-Servers among them, so at times while it has just taken a response.
+        for _ in range(SENT_EACH):
+            for lane in range(SENDING_LANES):
+                stage.nas.ask(f"h{lane}")
+        for home in stage.homes:
+            until("all are sent", lambda: len(home.requests()) == SENT_EACH)
+        for sent in zip(*(home.requests() for home in stage.homes)):
+            for home, (packet, sender) in zip(stage.homes, sent):
+                home.answer(packet, sender)
+            stage.nas.ask_status()
+        counts = lambda name: values(stage, name)
+        until("each is answered", lambda: stage.nas.ask_status() or counts("answered_total") == [SENT_EACH] * SENDING_LANES)
+        until("each is measured", lambda: stage.nas.ask_status() or counts("response_seconds_count") == [SENT_EACH] * SENDING_LANES)
+
+
+def drops_are_counted_in_a_long_table(program, folder):
+    """What the system drops of a socket is counted, where more than 256 lines of its table stand before that of the socket."""
+    with contextlib.ExitStack() as others:
+        for _ in range(TABLE):
+            others.enter_context(bound())
+        port = until("a port far behind", lambda: next((port for port in [free_port()] if line_of(port) > BEHIND), None))
+        with Stage(program, folder, port=port) as stage:
+            need(line_of(port) > BEHIND - TABLE // 100, "it stands in line", line_of(port))
+            stage.proxy.ran.send_signal(signal.SIGSTOP)
+            while not dropped_at(stage.proxy.listen):
+                stage.nas.socket.sendto(bytes(1000), stage.proxy.listen)
+            stage.proxy.ran.send_signal(signal.SIGCONT)
+            until("the drops", lambda: values(stage, "socket_drops_total")[0] == dropped_at(stage.proxy.listen) > 0)
+
+
+def line_of(port):
+    """In which line of the system's table a socket of this port stands, or would stand."""
+    with contextlib.ExitStack() as held:
+        with contextlib.suppress(OSError):
+            held.enter_context(bound(port=port))
+        rows = pathlib.Path("/proc/net/udp").read_text().splitlines()
+    return next(at for at, row in enumerate(rows) if f":{port:04X} " in row[:24])
+
+
 def drops_are_counted_behind_16_bits(program, folder):
     """What the system drops of a socket is counted, where it is more than 16 bits count."""
     with Stage(program, folder) as stage:
@@ -405,6 +471,9 @@ TESTS = [
     the_longest_times_pass,
     an_identifier_wraps_beside_a_probe,
     the_longest_ring_fills,
+    workers_go_on_behind_a_million_turns,
+    responses_of_the_least_ring_are_measured,
+    drops_are_counted_in_a_long_table,
     drops_are_counted_behind_16_bits,
 ]
 

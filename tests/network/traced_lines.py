@@ -195,6 +195,21 @@ def each_line_of_the_file_has_its_number(program, folder):
         has_others(tracing, 3)
 
 
+def the_longest_lines_are_whole(program, folder):
+    """A session and a realm of as many octets as there can be, none of which is text, are told whole."""
+    session, realm = b"\xff" * 253, b"\xfe" * 252
+    with Tracing(program, folder) as tracing:
+        tracing.name(b"session " + b"%ff" * 253 + b"\n", "level=info event=trace count=1")
+        see_request(tracing, 1, 0, f" session={'%ff' * 253} realm=h0.example", 1, session=session)
+        octets = tracing.asks(2, b"@" + realm, session)
+        client = "{}={} {}={}"
+        address, port = tracing.stage.nas.socket.getsockname()
+        packet = f"identifier=2 session={'%ff' * 253} realm={'%fe' * 252}"
+        hope("traced", tracing.lines(2), [
+            f"level=trace event=came worker=front {client.format('address', address, 'port', port)} code=4 length={len(octets)} {packet} trace=1",
+            f'level=debug event=dropped {client.format("client", address, "client_port", port)} {packet} reason="NoRealm" trace=1'])
+
+
 def what_is_removed_is_traced_no_more(program, folder):
     """Once the file names something else, or is gone, nothing is told of what it named before."""
     with Tracing(program, folder) as tracing:
@@ -268,7 +283,7 @@ def without_a_name_nothing_is_looked_at(program, folder):
 
 
 TESTS = [a_session_is_traced, a_user_is_traced_and_not_named, a_client_is_traced, what_is_not_answered_is_traced,
-         each_line_of_the_file_has_its_number, what_is_removed_is_traced_no_more, faults_are_told_once, at_trace_each_line_is_logged_once,
+         each_line_of_the_file_has_its_number, the_longest_lines_are_whole, what_is_removed_is_traced_no_more, faults_are_told_once, at_trace_each_line_is_logged_once,
          it_begins_within_a_second, without_a_name_nothing_is_looked_at]
 
 

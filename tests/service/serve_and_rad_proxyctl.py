@@ -131,7 +131,7 @@ def a_term_while_it_opens_its_fifos_ends_it(service):
 def a_limit_on_the_size_of_files_ends_nothing(service):
     """Under a limit as LimitFSIZE sets it ledger, counters and log are told as not written, and requests are answered; without it
     all three are written again."""
-    ledger, most = service.room / "ledger", 140
+    ledger, most = service.room / "ledger", 500
     ledger.mkdir()
     service.environment |= {"RAD_PROXY_LEDGER": str(ledger), "RAD_PROXY_LOG": "debug"}
     none = resource.RLIM_INFINITY
@@ -144,16 +144,18 @@ def a_limit_on_the_size_of_files_ends_nothing(service):
         service.home.sendto(answered(octets), proxy)
         return service.nas.recv(4096)[0] == 5
 
+    hope("a request is answered", is_answered(), True)
     for text in ('event=counters-fault reason="not written"', "event=ledger-fault reason=\"can't write: File too large (os error 27)\""):
         until(text, lambda: text in service.log.read_text())
     for _ in range(20):
         service.send(b"no packet")
     until("the log is full", lambda: service.log.stat().st_size == most)
-    hope("a request is answered", is_answered(), True)
+    service.send(request_of_nas())
+    hope("it is answered again", service.nas.recv(4096)[0], 5)
     done = service.ask("state")
     hope("it answers", (done.returncode, done.stdout.split()[4]), (0, "open"))
     resource.prlimit(program, resource.RLIMIT_FSIZE, (none, none))
-    until("the ledger has the record", lambda: any('"type":"entry"' in path.read_text() for path in ledger.iterdir()))
+    until("the ledger has the record", lambda: any('"response"' in path.read_text() for path in ledger.iterdir()))
     until("the counters", (service.run / "counters").exists)
     service.send(b"no packet")
     until("lines were lost", lambda: "event=lines-dropped" in service.log.read_text())

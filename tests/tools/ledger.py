@@ -12,6 +12,7 @@ import gzip
 import importlib.machinery
 import importlib.util
 import io
+import json
 import os
 import pathlib
 import pty
@@ -28,8 +29,9 @@ import time
 from collections import defaultdict
 from dataclasses import dataclass
 
-from tests.lib import (ACCT_SESSION_ID, ACCT_STATUS_TYPE, PROXY_STATE, TOP, Lane, Run, attribute, environment, free_ports, hope, is_asked,
-                       mark, need, packets, request, started, text, try_in_folders, until, user_name)
+from tests.lib import (ACCT_SESSION_ID, ACCT_STATUS_TYPE, PROXY_STATE, TOP, Lane, Run, attribute, audit_model, environment, free_ports,
+                       hope, is_asked, mark, need, packets, request, started, text, try_in_folders, until, user_name)
+from tests.lib.ledgers import chained, sum_of
 from tests.lib.tools import running
 from tests.lib.tools.running import TOOLS, want
 
@@ -744,6 +746,48 @@ def what_was_left_is_told(program, folder):
         refused(stage, "find", 4, stage.config, "/dev/null")
 
 
+def one_home_servers_records_are_handed_out(program, folder):
+    """The files that are handed out have the lines of one home server alone, and the SHA-256 of the others; their chain is that of the
+    ledger, so that a line that is changed later is found. What was cut short is left away, and no file is written over."""
+    stage, run = Stage(program, folder), Ledger(folder, 7)
+    for at in range(6):
+        run.add(b"%s-%d" % (list(HOMES)[at % 2].encode(), at), home=at % 2)
+    second = run.made.begin()
+    lines = chained([*run.lines[:4], second, *run.lines[4:], run.made.left(1, session=b"spare-7"), run.made.end_of_all()])
+    texts = [text(lines[:4]).encode() + text(run.lines[4:5]).encode()[:200], text(lines[4:]).encode()]
+    ledger = stage.folder / "ledger"
+    ledger.mkdir()
+    (ledger / "2026-01-31-0000000000000007-000000.jsonl").write_bytes(texts[0])
+    (ledger / "2026-01-31-0000000000000007-000001.jsonl.gz").write_bytes(gzip.compress(texts[1]))
+    out = stage.folder / "out"
+    call = lambda *words: running.run("rad_ledger", "hand-out", *map(str, words), seconds=60)
+    ran = call("--home", "billing", out, ledger)
+    hope("what is told", (ran.returncode, ran.stdout, ran.stderr), (0, b"3 records, 4 lines left out\n", b""))
+    files = sorted(out.iterdir())
+    hope("files", [it.name for it in files], [f"2026-01-31-0000000000000007-00000{at}.jsonl" for at in range(2)])
+    handed = b"".join(it.read_bytes() for it in files)
+    hope("the others' words", (b"spare-" in handed, handed.count(b'"session":"billing-')), (False, 3))
+    hope("lines", [it["type"] for it in map(json.loads, handed.splitlines())],
+         ["begin", "entry", "hidden", "entry", "begin", "hidden", "entry", "hidden", "hidden", "end"])
+    config = stage.write("billing.toml", CONFIG.partition('[[home]]\nname = "spare"')[0].replace("192.0.2.1", "203.0.113.1").encode())
+    kept = f"0000000000000007:1:{sum_of(lines).hex()}"
+    audited = lambda auditor, *words: subprocess.run([*auditor, "--partial", "--sum", kept, config, *map(str, words)], capture_output=True, check=False)
+    name = "run 0000000000000007"
+    edited = stage.write("edited", files[0].read_bytes().replace(b'"port":40000', b'"port":40007'))
+    for auditor in [stage.auditor], [sys.executable, audit_model.__file__]:
+        ran = audited(auditor, *files)
+        told = [it for it in ran.stdout.decode().splitlines() if "lane 1" not in it]
+        hope("the audit", (told, ran.returncode), ([
+            f"{name} lane 0 billing from 0 entries 3 not judged 3 part", f"{name} lane 0 billing accepted 3 answered 3 left 0", f"{name} hidden 4"], 3))
+        hope("a line that is changed", f"{files[1]}:1: WrongSum" in audited(auditor, edited, files[1]).stdout.decode(), True)
+    again = stage.folder / "again"
+    call("--home", "billing", again, *files)
+    hope("handed out again", [it.read_bytes() for it in sorted(again.iterdir())], [it.read_bytes() for it in files])
+    for words in (("--home", "billing", out, ledger), (out, ledger), ("--home", "billing", out), ("--home", "billing", stage.config, ledger)):
+        ran = call(*words)
+        hope(f"{words}", (ran.returncode in (1, 4), ran.stdout, ran.stderr.count(b"\n")), (True, b"", 1))
+
+
 def times_that_do_not_exist_are_told(program, folder):
     """A line's time may have any digits: it is printed and compared as it stands."""
     stage, ledger = Stage(program, folder), Ledger(folder, 7)
@@ -873,7 +917,7 @@ def write_long(path, octets):
 TESTS = [records_are_found, paragraphs_have_all, many_records_are_all_told, each_form_is_read, the_verdict_is_the_auditors,
          sums_are_right, tables_are_right, volumes_of_64_bits_are_kept, an_import_is_whole_or_nothing, errors_are_one_line,
          details_are_compared, freeradius_writes_details, cut_anywhere_it_is_right_or_refused, spoiled_anywhere_it_ends_in_words,
-         what_was_left_is_told, times_that_do_not_exist_are_told, it_can_be_stopped, names_are_printed, progress_is_shown_at_a_terminal]
+         what_was_left_is_told, one_home_servers_records_are_handed_out, times_that_do_not_exist_are_told, it_can_be_stopped, names_are_printed, progress_is_shown_at_a_terminal]
 LONG = [a_gigabyte_takes_bounded_time_and_memory]
 
 

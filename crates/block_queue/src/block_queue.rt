@@ -1,11 +1,11 @@
 ghost use Rattle.std.specs.Prelude.{◌≡◌, ◌+◌, ◌^◌, ◌<◌, ◌≤◌, ◌++◌, OnOk, length};
 ghost use Rattle.std.specs.Map.Iter.{ShowsInOrder, deref};
-ghost use Rattle.queue_blocks.specs.Blocks.{linked_of, IsJoined};
+ghost use Rattle.raw_lists.specs.Blocks.{linked_of, IsJoined};
 
 use crate::Fifo;
 use crate::iter::Iter;
 use core::mem::replace_with;
-use queue_blocks::{BlockIter, HeldBlocks};
+use raw_lists::{BlockIter, HeldBlocks};
 use std::alloc::{AllocError, Global};
 use std::marker::Model;
 
@@ -24,8 +24,8 @@ pub struct BlockQueue<T> {
 }
 
 impl<T> Model for BlockQueue<T> {
-    ghost use Rattle.queue_blocks.specs.Queue.{Queue};
-    ghost use Rattle.queue_blocks.specs.Blocks.{items_of, room_of, linked_of, IsQueue};
+    ghost use Rattle.raw_lists.specs.Queue.{Queue};
+    ghost use Rattle.raw_lists.specs.Blocks.{items_of, room_of, linked_of, IsQueue};
 
     ghost Value = { Queue T };
 

@@ -1,6 +1,6 @@
 ghost use Rattle.std.specs.Prelude.{◌≡◌, ◌≤◌, ◌+◌, ◌↔◌, [], ◌∷◌, ◌++◌, List, ℕ, IsTrue, IsOk, OnOk, length};
 ghost use Rattle.std.specs.Option.{option_copied};
-ghost use Rattle.queue_blocks.specs.Queue.{oldest, TakesOldest};
+ghost use Rattle.raw_lists.specs.Queue.{oldest, TakesOldest};
 
 use std::alloc::{AllocError, Global};
 

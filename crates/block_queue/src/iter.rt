@@ -1,9 +1,9 @@
 ghost use Rattle.std.specs.Prelude.{◌≡◌, ◌<◌, IsSome, length, option_copied, slice_get};
 ghost use Rattle.std.specs.Iterator.{at_most};
 ghost use Rattle.std.specs.Map.Iter.{TakesFirst, deref};
-ghost use Rattle.queue_blocks.specs.Blocks.{items_of, left_in, IsChain};
+ghost use Rattle.raw_lists.specs.Blocks.{items_of, left_in, IsChain};
 
-use queue_blocks::{Block, BlockIter};
+use raw_lists::{Block, BlockIter};
 use std::marker::Model;
 
 /// The items of a queue, the oldest first.
@@ -16,7 +16,7 @@ pub struct Iter<'a, T> {
 
 impl<'a, T> Model for Iter<'a, T> {
     ghost use Rattle.std.specs.Prelude.{List, ◌++◌};
-    ghost use Rattle.queue_blocks.specs.Blocks.{items_of, left_in, IsChain};
+    ghost use Rattle.raw_lists.specs.Blocks.{items_of, left_in, IsChain};
 
     ghost Value = { List T };
 

@@ -6,7 +6,7 @@
 //! items are not moved when the queue grows. [`SlidingList`] is a list in one slice, with room that is made in the
 //! same way.
 //!
-//! The blocks and the list are in `queue_blocks`, with the definitions that the contracts cite: `Queue.antt` of its
+//! The blocks and the list are in `raw_lists`, with the definitions that the contracts cite: `Queue.antt` of its
 //! `specs` has the items and the room of a queue.
 #![tactic(auto)]
 
@@ -19,4 +19,4 @@ pub use block_queue::BlockQueue;
 pub use fifo::Fifo;
 pub use iter::Iter;
 pub use plain_queue::PlainQueue;
-pub use queue_blocks::{Numbered, Removed, Share, SlidingList, Spent};
+pub use raw_lists::{Numbered, Removed, Share, SlidingList, Spent};

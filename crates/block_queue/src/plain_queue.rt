@@ -12,7 +12,7 @@ pub struct PlainQueue<T> {
 impl<T> Model for PlainQueue<T> {
     ghost use Rattle.std.specs.Prelude.{◌-◌};
     ghost use Rattle.std.specs.VecDeque.{deque_len, deque_capacity};
-    ghost use Rattle.queue_blocks.specs.Queue.{Queue};
+    ghost use Rattle.raw_lists.specs.Queue.{Queue};
 
     ghost Value = { Queue T };
 

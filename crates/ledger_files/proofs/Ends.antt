@@ -1,11 +1,14 @@
 -- Where the lines of a batch end.
-use Rattle.std.proofs.Common.{◌≡◌, ℕ, ◌+◌, ◌<◌, ◌≤◌, List, [], ◌∷◌, ◌++◌, length, take, get_or, sym, ap, ◌∙◌, ⊎_elim, append-nil, arith, length-append}
-use Rattle.std.specs.List.{concat}
-use Rattle.std.proofs.Math.Seq.{get_or-append_seam}
-use Rattle.std.proofs.lemmas.List.{get_or_append_left, take-append-le, take_all}
+use Rattle.std.proofs.Common.{◌≡◌, ℕ, zero, suc, refl, ◌+◌, ◌-◌, ◌<◌, ◌≤◌, min, List, [], ◌∷◌, ◌++◌, length, take, drop, get_or, sym, ap, ◌∙◌, ⊎_elim, append-nil, append_assoc, add-one, arith, length-append}
+use Rattle.std.specs.List.{concat, slice_range}
+use Rattle.std.proofs.Math.Nat.{min-eq_left}
+use Rattle.std.proofs.Math.Seq.{drop-append_seam, get_or-append_seam, take-append_seam, take-suc}
+use Rattle.std.specs.Prelude.{map}
+use Rattle.std.proofs.lemmas.List.{ext_get_or, get_or_append_left, get_or-map, get_or-take, length-map, length-take, map-append, take-append-drop, take-append-le, take_all}
 use Rattle.std.proofs.lemmas.List.Folds.{concat-append}
 use Rattle.ledger_files.specs.declared.batch.Batch.{Batch}
-use Rattle.ledger_files.specs.Batches.{HoldsLines}
+use Rattle.sha2.specs.Sha256.{sha256}
+use Rattle.ledger_files.specs.Batches.{AreLines, HoldsLines}
 use Rattle.ledger_files.proofs.Orders.{below_or_not}
 
 abbrev AreEnds : List ℕ → List (List ℕ) → Type 0
@@ -33,40 +36,134 @@ pub start_stays : (lines : List (List ℕ)) (line : List ℕ) (whole : ℕ) → 
     → length (concat (take whole lines)) ≡ length (concat (take whole (lines ++ line ∷ [])))
 start_stays lines line whole l = ap (λ xs. length (concat xs)) (sym (take-append-le whole lines (line ∷ []) l))
 
-pub holds_none : (new : Batch) → new.octets.items ≡ [] → new.ends.items ≡ [] → new.whole ≡ 0 → new.start ≡ 0 → HoldsLines new []
-holds_none new eo ee ew es = record {
+-- The first digests of lines are those of them and one more.
+pub digests_stay : (digests lines : List (List ℕ)) (line : List ℕ) → digests ≡ take (length digests) (map sha256 lines)
+    → digests ≡ take (length digests) (map sha256 (lines ++ line ∷ []))
+digests_stay digests lines line h =
+    let n : ℕ = length digests in
+    let few : n ≤ length (map sha256 lines) = omega (arith, ap length h, length-take n (map sha256 lines)) in
+    h ∙ sym (take-append-le n (map sha256 lines) (sha256 line ∷ []) few)
+    ∙ ap (take n) (sym (map-append sha256 lines (line ∷ [])))
+
+pub holds_none : (new : Batch) → new.octets.items ≡ [] → new.ends.items ≡ [] → new.whole ≡ 0 → new.start ≡ 0 → new.digests.items ≡ [] → HoldsLines new []
+holds_none new eo ee ew es ed = record {
   octets = eo;
   count = ap length ee;
   ends = λ k l. absurd (omega arith);
   some = omega arith;
   start = es ∙ ap (λ n. length (concat (take n []))) (sym ew);
+  digests = ed ∙ ap (λ (ds : List (List ℕ)). take (length ds) (map sha256 [])) (sym ed);
 }
 
-pub holds_same : (old new : Batch) (lines : List (List ℕ)) → HoldsLines old lines → new.octets.items ≡ old.octets.items → new.ends.items ≡ old.ends.items → new.whole ≡ old.whole → new.start ≡ old.start → HoldsLines new lines
-holds_same old new lines h eo ee ew es = record {
+pub holds_same : (old new : Batch) (lines : List (List ℕ)) → HoldsLines old lines → new.octets.items ≡ old.octets.items → new.ends.items ≡ old.ends.items → new.whole ≡ old.whole → new.start ≡ old.start → new.digests.items ≡ old.digests.items → HoldsLines new lines
+holds_same old new lines h eo ee ew es ed = record {
   octets = eo ∙ h.octets;
   count = ap length ee ∙ h.count;
   ends = λ k l. ap (λ xs. get_or xs k 0) ee ∙ h.ends k l;
   some = omega (arith, h.some);
   start = es ∙ h.start ∙ ap (λ n. length (concat (take n lines))) (sym ew);
+  digests = ed ∙ h.digests ∙ ap (λ (ds : List (List ℕ)). take (length ds) (map sha256 lines)) (sym ed);
+}
+
+-- All lines are digested.
+pub holds_digested : (old new : Batch) (digests lines : List (List ℕ)) → HoldsLines old lines → new.octets.items ≡ old.octets.items → new.ends.items ≡ old.ends.items → new.whole ≡ old.whole → new.start ≡ old.start
+    → new.digests.items ≡ digests → length digests ≡ length lines → ((k : ℕ) → k < length digests → get_or digests k [] ≡ sha256 (get_or lines k [])) → HoldsLines new lines
+holds_digested old new digests lines h eo ee ew es ed n each = record {
+  octets = eo ∙ h.octets;
+  count = ap length ee ∙ h.count;
+  ends = λ k l. ap (λ xs. get_or xs k 0) ee ∙ h.ends k l;
+  some = omega (arith, h.some);
+  start = es ∙ h.start ∙ ap (λ n. length (concat (take n lines))) (sym ew);
+  digests =
+      let count : length digests ≡ length (map sha256 lines) = omega (arith, n, length-map lines sha256) in
+      ed ∙ ext_get_or [] digests (map sha256 lines) count
+      (λ k l. each k l ∙ sym (get_or-map sha256 lines k [] [] (omega (arith, n))))
+      ∙ sym (take_all (length digests) (map sha256 lines) (omega (arith, count)))
+      ∙ ap (λ (ds : List (List ℕ)). take (length ds) (map sha256 lines)) (sym ed);
 }
 
 pub holds_more : (old new : Batch) (line : List ℕ) (lines : List (List ℕ)) → HoldsLines old lines → new.octets.items ≡ old.octets.items ++ line → new.ends.items ≡ old.ends.items ++ length (old.octets.items ++ line) ∷ []
-    → new.whole ≡ old.whole → new.start ≡ old.start → HoldsLines new (lines ++ line ∷ [])
-holds_more old new line lines h eo ee ew es = record {
+    → new.whole ≡ old.whole → new.start ≡ old.start → new.digests.items ≡ old.digests.items → HoldsLines new (lines ++ line ∷ [])
+holds_more old new line lines h eo ee ew es ed = record {
   octets = eo ∙ joined old.octets.items line lines h.octets;
   count = omega (arith, ap length ee, length-append old.ends.items (length (old.octets.items ++ line) ∷ []), length-append lines (line ∷ []), h.count);
   ends = λ k l. ap (λ xs. get_or xs k 0) ee ∙ ends_with old.octets.items old.ends.items line lines h.octets h.count h.ends k l;
   some = omega (arith, length-append lines (line ∷ []), h.some);
   start = es ∙ h.start ∙ start_stays lines line old.whole h.some ∙ ap (λ n. length (concat (take n (lines ++ line ∷ [])))) (sym ew);
+  digests = ed ∙ digests_stay old.digests.items lines line h.digests ∙ ap (λ (ds : List (List ℕ)). take (length ds) (map sha256 (lines ++ line ∷ []))) (sym ed);
 }
 
 pub holds_passed : (old new : Batch) (lines : List (List ℕ)) → HoldsLines old lines → new.octets.items ≡ old.octets.items → new.ends.items ≡ old.ends.items → old.whole < length old.ends.items
-    → new.whole ≡ old.whole + 1 → new.start ≡ get_or old.ends.items old.whole 0 → HoldsLines new lines
-holds_passed old new lines h eo ee l ew es = record {
+    → new.whole ≡ old.whole + 1 → new.start ≡ get_or old.ends.items old.whole 0 → new.digests.items ≡ old.digests.items → HoldsLines new lines
+holds_passed old new lines h eo ee l ew es ed = record {
   octets = eo ∙ h.octets;
   count = ap length ee ∙ h.count;
   ends = λ k l. ap (λ xs. get_or xs k 0) ee ∙ h.ends k l;
   some = omega (arith, h.count);
   start = es ∙ h.ends old.whole (omega (arith, h.count)) ∙ ap (λ n. length (concat (take n lines))) (sym ew);
+  digests = ed ∙ h.digests ∙ ap (λ (ds : List (List ℕ)). take (length ds) (map sha256 lines)) (sym ed);
 }
+
+-- The octets of a line, from where it begins to where it ends.
+pub line_between : (all places : List ℕ) (lines : List (List ℕ)) (k from end : ℕ) → AreLines all places lines → k < length lines
+    → from ≡ length (concat (take k lines)) → end ≡ get_or places k 0 → slice_range all from end ≡ get_or lines k []
+line_between all places lines k from end h low from_is e =
+    let line : List ℕ = get_or lines k [] in
+    let firsts : take (k + 1) lines ≡ take k lines ++ line ∷ [] = rw add-one (take-suc lines k [] low) in
+    let a : List ℕ = concat (take k lines) in
+    let b : List ℕ = concat (drop (k + 1) lines) in
+    let front : concat (take (k + 1) lines) ≡ a ++ line =
+    ap concat firsts ∙ concat-append (take k lines) (line ∷ []) ∙ ap (λ (x : List ℕ). a ++ x) (append-nil line) in
+    let end_is : end ≡ length a + length line = e ∙ h.ends k low ∙ ap length front ∙ length-append a line in
+    let its : all ≡ a ++ (line ++ b) =
+    h.octets ∙ ap concat (sym (take-append-drop (k + 1) lines)) ∙ concat-append (take (k + 1) lines) (drop (k + 1) lines)
+    ∙ ap (λ (x : List ℕ). x ++ b) front ∙ append_assoc a line b in
+    let count : end - from ≡ length line = omega (arith, end_is, from_is) in
+    ap (λ (x : List ℕ). take (end - from) (drop from x)) its
+    ∙ ap (λ (n : ℕ). take (end - from) (drop n (a ++ (line ++ b)))) from_is
+    ∙ ap (take (end - from)) (drop-append_seam a (line ++ b))
+    ∙ ap (λ (n : ℕ). take n (line ++ b)) count
+    ∙ take-append_seam line b
+
+-- A line begins where the one before it ends, and no line ends before it begins, or behind the octets.
+pub begins_below : (all places : List ℕ) (lines : List (List ℕ)) (k : ℕ) → AreLines all places lines → k < length lines
+    → length (concat (take k lines)) ≤ get_or places k 0
+begins_below all places lines k h low =
+    let line : List ℕ = get_or lines k [] in
+    let firsts : take (k + 1) lines ≡ take k lines ++ line ∷ [] = rw add-one (take-suc lines k [] low) in
+    let front : concat (take (k + 1) lines) ≡ concat (take k lines) ++ line =
+    ap concat firsts ∙ concat-append (take k lines) (line ∷ []) ∙ ap (λ (x : List ℕ). concat (take k lines) ++ x) (append-nil line) in
+    omega (arith, h.ends k low, ap length front, length-append (concat (take k lines)) line)
+
+pub ends_within : (all places : List ℕ) (lines : List (List ℕ)) (k : ℕ) → AreLines all places lines → k < length lines
+    → get_or places k 0 ≤ length all
+ends_within all places lines k h low =
+    omega (arith, h.ends k low, ap length h.octets, ap (λ xs. length (concat xs)) (take-append-drop (k + 1) lines), ap length (concat-append (take (k + 1) lines) (drop (k + 1) lines)), length-append (concat (take (k + 1) lines)) (concat (drop (k + 1) lines)))
+
+pub begins_at : (all places : List ℕ) (lines : List (List ℕ)) (k start : ℕ) → AreLines all places lines → k < length lines
+    → (k ≡ 0 → start ≡ 0) → (0 < k → start ≡ get_or places (k - 1) 0) → start ≡ length (concat (take k lines))
+begins_at all places lines zero start h low first further = first refl
+begins_at all places lines (suc k) start h low first further =
+    let before : suc k - 1 ≡ k = omega arith in
+    further (omega arith) ∙ ap (λ (n : ℕ). get_or places n 0) before ∙ h.ends k (omega (arith, low)) ∙ ap (λ (n : ℕ). length (concat (take n lines))) (add-one k)
+
+pub lines_of_batch : (batch : Batch) (held : List (List ℕ)) → HoldsLines batch held → AreLines batch.octets.items batch.ends.items held
+lines_of_batch batch held h = record { octets = h.octets; count = h.count; ends = h.ends }
+
+-- The octets of the next line of a batch.
+pub line_at : (batch : Batch) (held : List (List ℕ)) (octets : List ℕ) (from end : ℕ) → HoldsLines batch held → batch.whole < length batch.ends.items
+    → octets ≡ batch.octets.items → from ≡ min batch.start end → end ≡ get_or batch.ends.items batch.whole 0 → slice_range octets from end ≡ get_or held batch.whole []
+line_at batch held octets from end h some o m e =
+    let low : batch.whole < length held = omega (arith, h.count) in
+    let its : AreLines batch.octets.items batch.ends.items held = lines_of_batch batch held h in
+    let below : batch.start ≤ end = omega (arith, h.start, e, begins_below batch.octets.items batch.ends.items held batch.whole its low) in
+    ap (λ (x : List ℕ). slice_range x from end) o
+    ∙ line_between batch.octets.items batch.ends.items held batch.whole from end its low (m ∙ min-eq_left below ∙ h.start) e
+
+-- The digest at the place of the next line of a batch is that of the line.
+pub digest_there : (batch : Batch) (held : List (List ℕ)) (digest : List ℕ) → HoldsLines batch held → batch.whole < length batch.digests.items
+    → digest ≡ get_or batch.digests.items batch.whole [] → batch.whole < length held → digest ≡ sha256 (get_or held batch.whole [])
+digest_there batch held digest h there e low =
+    e ∙ ap (λ (ds : List (List ℕ)). get_or ds batch.whole []) h.digests
+    ∙ get_or-take (length batch.digests.items) (map sha256 held) batch.whole [] there
+    ∙ get_or-map sha256 held batch.whole [] [] low

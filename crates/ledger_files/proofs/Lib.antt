@@ -1,3 +1,4 @@
+mod Chains
 mod Dates
 mod Ends
 mod Orders

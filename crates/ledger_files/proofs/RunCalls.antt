@@ -1,18 +1,22 @@
 -- What each call leaves of a run.
-use Rattle.std.proofs.Common.{◌≡◌, ℕ, ◌+◌, ◌-◌, ◌<◌, ◌≤◌, Bool, List, [], ◌∷◌, ◌++◌, Option, Some, None, length, take, drop, get_or, refl, sym, ap, ◌∙◌, subst, arith, length-append, add-one}
-use Rattle.std.specs.Prelude.{IfSome, IsTrue, ◌↔◌}
+use Rattle.std.proofs.Common.{◌≡◌, ℕ, zero, suc, ◌+◌, ◌-◌, ◌<◌, ◌≤◌, Bool, true, false, inl, List, [], ◌∷◌, ◌++◌, Option, Some, None, Result, Ok, Err, MatchResult, length, take, drop, get_or, refl, sym, ap, ◌∙◌, subst, ⊎_elim, arith, length-append, append-nil, add-one}
+use Rattle.std.specs.Prelude.{IfSome, IsErrAnd, IsTrue, ◌↔◌}
 use Rattle.std.specs.List.{concat, slice_range}
 use Rattle.std.proofs.Math.Seq.{take-suc, drop-cons, drop-append-add}
-use Rattle.std.proofs.lemmas.List.{take-append-drop, drop-append-le}
+use Rattle.std.proofs.lemmas.List.{take-append-drop, drop-append-le, drop_all}
 use Rattle.std.proofs.lemmas.List.Folds.{concat-append}
+use Rattle.sha2.specs.Sha256.{sha256}
 use Rattle.ledger_files.specs.Batches.{HoldsLines}
-use Rattle.ledger_files.specs.Files.{File, IsOpen, with_octets, wrote, made}
-use Rattle.ledger_files.specs.Runs.{IsLeft, IsRunOf, IsRunWith}
+use Rattle.ledger_files.specs.Chains.{chain_after, chain_of}
+use Rattle.ledger_files.specs.Files.{File, IsOpen, with_octets, wrote, made, synced, with_synced}
+use Rattle.ledger_files.specs.Passing.{Passes, if_passed, newly_passed}
+use Rattle.ledger_files.specs.Runs.{Part, Begun, IsLeft, IsOpenRun, IsRunOf, IsRunWith, begun_of, passed_of}
 use Rattle.ledger_files.specs.declared.batch.Batch.{Batch}
 use Rattle.ledger_files.specs.declared.pending.Pending.{Pending}
 use Rattle.ledger_files.proofs.Ends.{start_stays}
-use Rattle.ledger_files.proofs.Runs.{lines_and_one}
-use Rattle.ledger_files.proofs.RunSteps.{first_step, entries_step, end_step, passed_step, begin_step, add_step, ended_step}
+use Rattle.ledger_files.proofs.Runs.{lines_and_one, with_done, as_passed, opposed}
+use Rattle.ledger_files.proofs.Chains.{line_more}
+use Rattle.ledger_files.proofs.RunSteps.{first_step, first_passes, entries_step, end_step, end_passes, passed_step, begin_step, add_step, ended_step, synced_step, fresh}
 
 -- ---- the lines of a batch
 
@@ -98,9 +102,16 @@ module _ (old new : Batch) (left : List (List ℕ)) (written : ℕ) where
       ∙ ap (λ (x : List (List ℕ)). drop written (concat x)) (sym h.left_is) in
       ap (λ (k : ℕ). take k (drop old.done old.octets.items)) count ∙ ap (take (now - written)) behind
 
+  -- Once all lines are passed, none is left.
+  none_left : old.whole ≡ length old.ends.items → IsLeft old left written → left ≡ []
+  none_left all h = h.left_is ∙ drop_all old.whole h.held (omega (arith, all, h.batch_is.count))
+
 -- The next line is passed.
-record Passed (new : Batch) (left : List (List ℕ)) (written : ℕ) : Type 0 where
+record Passed (old new : Batch) (left : List (List ℕ)) (written : ℕ) : Type 0 where
+  held : List (List ℕ)
+  held_is : HoldsLines old held
   line : List ℕ
+  line_is : line ≡ get_or held old.whole []
   more : List (List ℕ)
   now : ℕ
   left_is : left ≡ line ∷ more
@@ -108,7 +119,7 @@ record Passed (new : Batch) (left : List (List ℕ)) (written : ℕ) : Type 0 wh
   batch_is : IsLeft new more now
 
 left_passed : (old new : Batch) (left : List (List ℕ)) (written : ℕ) → Keeps old new → new.done ≡ old.done → new.whole ≡ old.whole + 1 → old.whole < length old.ends.items
-    → get_or old.ends.items old.whole 0 ≤ old.done → IsLeft old left written → Passed new left written
+    → get_or old.ends.items old.whole 0 ≤ old.done → IsLeft old left written → Passed old new left written
 left_passed old new left written keeps d w some end h =
     let k : ℕ = old.whole in
     let line : List ℕ = get_or h.held k [] in
@@ -120,7 +131,10 @@ left_passed old new left written keeps d w some end h =
     let start : new.start ≡ length (concat (take (k + 1) h.held)) = new_is.start ∙ ap (λ (n : ℕ). length (concat (take n h.held))) w in
     let ends : get_or old.ends.items k 0 ≡ length (concat (take (k + 1) h.held)) = h.batch_is.ends k low in
     record {
+      held = h.held;
+      held_is = h.batch_is;
       line = line;
+      line_is = refl;
       more = drop (k + 1) h.held;
       now = new.done - new.start;
       left_is = h.left_is ∙ rw add-one (drop-cons h.held k [] low);
@@ -138,62 +152,108 @@ left_passed old new left written keeps d w some end h =
 abbrev Fits : Batch → Type 0
 Fits batch = batch.done ≤ length batch.octets.items
 
-abbrev Of : Option (List File) → Pending → Batch → Pending → List (List ℕ) → Type 0
-Of files first batch last lines = IfSome files (λ fs. IsRunOf fs first batch last lines)
+abbrev Of : Option (List File) → Pending → Batch → Pending → List ℕ → List (List ℕ) → Type 0
+Of files first batch last sum lines = IfSome files (λ fs. IsRunOf fs first batch last sum lines)
+
+-- What a chain is behind the next line, where it is that of the lines before.
+abbrev Goes : List ℕ → List ℕ → List (List ℕ) → Type 0
+Goes sum next more = (lines : List (List ℕ)) → sum ≡ chain_of lines → next ≡ chain_of (lines ++ more)
+
+-- What is not empty has octets.
+pub has_some : (b : Bool) (n : ℕ) → (IsTrue b ↔ (n ≡ 0)) → b ≡ false → 0 < n
+has_some b zero f e = absurd (opposed b (f.1 refl) e)
+has_some b (suc n) f e = omega arith
 
 none_of : (xs : List ℕ) → length xs ≡ 0 → xs ≡ []
 none_of [] e = refl
 none_of (x ∷ xs) e = absurd (omega arith)
 
-pub batch_kept : (files : Option (List File)) (first : Pending) (old new : Batch) (last : Pending) (lines : List (List ℕ)) → Keeps old new → new.done ≡ old.done → new.whole ≡ old.whole
-    → Of files first old last lines → Of files first new last lines
-batch_kept None first old new last lines keeps d w h = h
-batch_kept (Some fs) first old new last lines keeps d w h = record {
+-- How far a line is written, by its parts.
+begun_same : (a b : Begun) → a.octets ≡ b.octets → a.done ≡ b.done → a.is_passed ≡ b.is_passed → a ≡ b
+begun_same a b o d p =
+    let f : List ℕ → Begun = λ x. record { octets = x; done = a.done; is_passed = a.is_passed } in
+    let g : ℕ → Begun = λ n. record { octets = b.octets; done = n; is_passed = a.is_passed } in
+    let k : Bool → Begun = λ c. record { octets = b.octets; done = b.done; is_passed = c } in
+    ap f o ∙ ap g d ∙ ap k p
+
+-- The sum is another one of the same lines.
+with_sum : (files : List File) (first : Begun) (left : List (List ℕ)) (written : ℕ) (last : Begun) (sum next : List ℕ) (lines : List (List ℕ))
+    → ((its : List (List ℕ)) → sum ≡ chain_of its → next ≡ chain_of its) → IsRunWith files first left written last sum lines → IsRunWith files first left written last next lines
+with_sum files first left written last sum next lines g h =
+    record { parts = h.parts; lines_are = h.lines_are; files_are = h.files_are; open_is = h.open_is; sum_is = g (passed_of h.parts) h.sum_is }
+
+-- The first line is written whole where it was passed.
+first_is_done : (files : List File) (parts : List Part) (first : Begun) (left : List (List ℕ)) (written : ℕ) (last : Begun) → IsOpen files → IsOpenRun files parts first left written last
+    → first.is_passed ≡ true → first.done ≡ length first.octets
+first_is_done [] parts first left written last opens o t = absurd opens
+first_is_done (file ∷ older) [] first left written last opens o t = absurd o
+first_is_done (file ∷ older) (part ∷ parts) first left written last opens o t = ⊎_elim
+    (λ (all : (first.is_passed ≡ true) × (first.done ≡ length first.octets)). all.1)
+    (λ (none : (first.is_passed ≡ false) × (part.lines ≡ []) × (written ≡ 0) × (last.done ≡ 0)). absurd (opposed first.is_passed t none.0))
+    o.in_order
+
+pub batch_kept : (files : Option (List File)) (first : Pending) (old new : Batch) (last : Pending) (sum : List ℕ) (lines : List (List ℕ)) → Keeps old new → new.done ≡ old.done → new.whole ≡ old.whole
+    → Of files first old last sum lines → Of files first new last sum lines
+batch_kept None first old new last sum lines keeps d w h = h
+batch_kept (Some fs) first old new last sum lines keeps d w h = record {
   left = h.left;
   written = h.written;
   batch_is = left_kept old new h.left h.written keeps d w h.batch_is;
   run_is = h.run_is;
 }
 
-pub added : (files : Option (List File)) (first : Pending) (old new : Batch) (last : Pending) (lines : List (List ℕ)) (line : List ℕ) → length last.octets.items ≡ 0 → last.done ≤ length last.octets.items → Fits old
+-- A call that failed leaves what was there.
+pub left_as_is : {T E : Type 0} (result : Result T E) (P : T → Type 0) (Q : Type 0) (fault : E) → IsErrAnd result (λ f. f ≡ fault) → Q → MatchResult result P (λ _. Q)
+left_as_is (Ok x) P Q fault e q = absurd e
+left_as_is (Err f) P Q fault e q = q
+
+pub none_passed : (files : Option (List File)) (first : Pending) (old new : Batch) (last : Pending) (sum next : List ℕ) (lines : List (List ℕ)) → next ≡ sum → Keeps old new → new.done ≡ old.done → new.whole ≡ old.whole
+    → Of files first old last sum lines → Of files first new last next lines
+none_passed files first old new last sum next lines e keeps d w h =
+    subst (λ (x : List ℕ). Of files first new last x lines) (sym e) (batch_kept files first old new last sum lines keeps d w h)
+
+pub added : (files : Option (List File)) (first : Pending) (old new : Batch) (last : Pending) (sum : List ℕ) (lines : List (List ℕ)) (line : List ℕ) → length last.octets.items ≡ 0 → last.done ≤ length last.octets.items → Fits old
     → ((held : List (List ℕ)) → HoldsLines old held → HoldsLines new (held ++ line ∷ [])) → new.done ≡ old.done → new.whole ≡ old.whole
-    → Of files first old last lines → Of files first new last (lines ++ line ∷ [])
-added None first old new last lines line none z fits adds d w h = h
-added (Some fs) first old new last lines line none z fits adds d w h = record {
+    → Of files first old last sum lines → Of files first new last sum (lines ++ line ∷ [])
+added None first old new last sum lines line none z fits adds d w h = h
+added (Some fs) first old new last sum lines line none z fits adds d w h = record {
   left = h.left ++ line ∷ [];
   written = h.written;
   batch_is = left_added old new h.left h.written line adds d w h.batch_is;
-  run_is = add_step fs first.octets.items first.done h.left h.written last.octets.items last.done lines line (none_of last.octets.items none) (omega arith) (written_within old new h.left h.written fits h.batch_is) h.run_is;
+  run_is = add_step fs (begun_of first) h.left h.written (begun_of last) sum lines line (none_of last.octets.items none) (omega arith) (written_within old new h.left h.written fits h.batch_is) h.run_is;
 }
 
-pub ended : (files : Option (List File)) (first : Pending) (batch : Batch) (old new : Pending) (lines : List (List ℕ)) → length old.octets.items ≡ 0 → old.done ≤ length old.octets.items → new.done ≡ 0
-    → Of files first batch old lines → Of files first batch new lines
-ended None first batch old new lines none z e h = h
-ended (Some fs) first batch old new lines none z e h =
-    let P : ℕ → Type 0 = λ n. IsRunWith fs first.octets.items first.done h.left h.written new.octets.items n lines in
+pub ended : (files : Option (List File)) (first : Pending) (batch : Batch) (old new : Pending) (sum : List ℕ) (lines : List (List ℕ)) → length old.octets.items ≡ 0 → old.done ≤ length old.octets.items → new.done ≡ 0 → new.is_passed ≡ false
+    → Of files first batch old sum lines → Of files first batch new sum lines
+ended None first batch old new sum lines none z e p h = h
+ended (Some fs) first batch old new sum lines none z e p h =
+    let P : ℕ → Type 0 = λ n. IsRunWith fs (begun_of first) h.left h.written (record { octets = new.octets.items; done = n; is_passed = new.is_passed }) sum lines in
+    let Q : Bool → Type 0 = λ b. IsRunWith fs (begun_of first) h.left h.written (record { octets = new.octets.items; done = 0; is_passed = b }) sum lines in
     record {
       left = h.left;
       written = h.written;
       batch_is = h.batch_is;
-      run_is = subst P (sym e) (ended_step fs first.octets.items first.done h.left h.written old.octets.items old.done lines new.octets.items (none_of old.octets.items none) (omega arith) h.run_is);
+      run_is = subst P (sym e) (subst Q (sym p) (ended_step fs (begun_of first) h.left h.written (begun_of old) sum lines new.octets.items (none_of old.octets.items none) (omega arith) h.run_is));
     }
 
-pub begun : (before after : Option (List File)) (path : List ℕ) (first next : Pending) (old new : Batch) (last again : Pending) (lines : List (List ℕ)) → after ≡ made before path → next.done ≡ 0
-    → Keeps old new → new.done ≡ old.start → new.whole ≡ old.whole → again.octets.items ≡ last.octets.items → again.done ≡ 0
-    → Of before first old last lines → Of after next new again lines
-begun None after path first next old new last again lines e n keeps d w o z h = let P : Option (List File) → Type 0 = λ x. Of x next new again lines in subst P (sym e) h
-begun (Some fs) after path first next old new last again lines e n keeps d w o z h =
-    let P : Option (List File) → Type 0 = λ x. Of x next new again lines in
+pub begun : (before after : Option (List File)) (path : List ℕ) (first next : Pending) (old new : Batch) (last none : Pending) (sum : List ℕ) (lines : List (List ℕ)) → after ≡ made before path
+    → next.done ≡ 0 → next.is_passed ≡ false → Keeps old new → new.done ≡ old.start → new.whole ≡ old.whole → none.octets.items ≡ [] → none.done ≡ 0 → none.is_passed ≡ false
+    → Of before first old last sum lines → Of after next new none sum lines
+begun None after path first next old new last none sum lines e n m keeps d w o z q h = let P : Option (List File) → Type 0 = λ x. Of x next new none sum lines in subst P (sym e) h
+begun (Some fs) after path first next old new last none sum lines e n m keeps d w o z q h =
+    let P : Option (List File) → Type 0 = λ x. Of x next new none sum lines in
     let to : List File = record { path = path; octets = []; synced = 0 } ∷ fs in
-    let Q : ℕ → Type 0 = λ k. IsRunWith to next.octets.items k h.left 0 last.octets.items 0 lines in
-    let R : List ℕ → Type 0 = λ x. IsRunWith to next.octets.items next.done h.left 0 x 0 lines in
-    let S : ℕ → Type 0 = λ k. IsRunWith to next.octets.items next.done h.left 0 again.octets.items k lines in
-    let step = begin_step fs first.octets.items first.done h.left h.written last.octets.items last.done lines path next.octets.items h.run_is in
-    let is : IsRunOf to next new again lines = record {
+    let its : Begun = fresh next.octets.items in
+    let first_is : its ≡ begun_of next = begun_same its (begun_of next) refl (sym n) (sym m) in
+    let last_is : fresh [] ≡ begun_of none = begun_same (fresh []) (begun_of none) (sym o) (sym z) (sym q) in
+    let Q : Begun → Type 0 = λ b. IsRunWith to b h.left 0 (fresh []) sum lines in
+    let R : Begun → Type 0 = λ b. IsRunWith to (begun_of next) h.left 0 b sum lines in
+    let step = begin_step fs (begun_of first) h.left h.written (begun_of last) sum lines path next.octets.items h.run_is in
+    let is : IsRunOf to next new none sum lines = record {
       left = h.left;
       written = 0;
       batch_is = left_again old new h.left h.written keeps d w h.batch_is;
-      run_is = subst S (sym z) (subst R (sym o) (subst Q (sym n) step));
+      run_is = subst R last_is (subst Q first_is step);
     } in
     subst P (sym e) is
 
@@ -209,67 +269,174 @@ pub open_after : (before after : Option (List File)) (octets : List ℕ) → aft
 open_after None after octets e o = let P : Option (List File) → Type 0 = λ x. IfSome x (λ fs. IsOpen fs) in subst P (sym e) o
 open_after (Some fs) after octets e o = let P : Option (List File) → Type 0 = λ x. IfSome x (λ fs. IsOpen fs) in subst P (sym e) (still_open fs octets o)
 
-pub first_wrote : (before after : Option (List File)) (old new : Pending) (batch : Batch) (last : Pending) (lines : List (List ℕ)) → IfSome before (λ fs. IsOpen fs)
-    → after ≡ wrote before (slice_range old.octets.items old.done new.done) → new.octets.items ≡ old.octets.items → old.done ≤ new.done → new.done ≤ length old.octets.items
-    → Of before old batch last lines → Of after new batch last lines
-first_wrote None after old new batch last lines opens e o l k h = let P : Option (List File) → Type 0 = λ x. Of x new batch last lines in subst P (sym e) h
-first_wrote (Some fs) after old new batch last lines opens e o l k h =
-    let P : Option (List File) → Type 0 = λ x. Of x new batch last lines in
+pub first_wrote : (before after : Option (List File)) (old new : Pending) (batch : Batch) (last : Pending) (sum : List ℕ) (lines : List (List ℕ)) → IfSome before (λ fs. IsOpen fs)
+    → after ≡ wrote before (slice_range old.octets.items old.done new.done) → new.octets.items ≡ old.octets.items → new.is_passed ≡ old.is_passed → old.done ≤ new.done → new.done ≤ length old.octets.items
+    → Of before old batch last sum lines → Of after new batch last sum lines
+first_wrote None after old new batch last sum lines opens e o p l k h = let P : Option (List File) → Type 0 = λ x. Of x new batch last sum lines in subst P (sym e) h
+first_wrote (Some fs) after old new batch last sum lines opens e o p l k h =
+    let P : Option (List File) → Type 0 = λ x. Of x new batch last sum lines in
     let to : List File = with_octets fs (slice_range old.octets.items old.done new.done) in
-    let Q : List ℕ → Type 0 = λ x. IsRunWith to x new.done h.left h.written last.octets.items last.done lines in
-    let is : IsRunOf to new batch last lines = record {
+    let same : with_done (begun_of old) new.done ≡ begun_of new = begun_same (with_done (begun_of old) new.done) (begun_of new) (sym o) refl (sym p) in
+    let Q : Begun → Type 0 = λ b. IsRunWith to b h.left h.written (begun_of last) sum lines in
+    let is : IsRunOf to new batch last sum lines = record {
       left = h.left;
       written = h.written;
       batch_is = h.batch_is;
-      run_is = subst Q (sym o) (first_step old.octets.items old.done h.left h.written last.octets.items last.done lines new.done fs opens l k h.run_is);
+      run_is = subst Q same (first_step (begun_of old) h.left h.written (begun_of last) sum lines new.done fs opens l k h.run_is);
     } in
     subst P (sym e) is
 
-pub entries_wrote : (before after : Option (List File)) (first : Pending) (old new : Batch) (last : Pending) (lines : List (List ℕ)) → IfSome before (λ fs. IsOpen fs) → first.done ≡ length first.octets.items
+-- The first line is passed, where it is written whole and was not passed before.
+module _ (files : List File) (old new : Pending) (left : List (List ℕ)) (written : ℕ) (last : Begun) (sum next : List ℕ) (lines : List (List ℕ)) where
+  first_as : Passes old new → Goes sum next (newly_passed old new) → IsOpen files → (b c : Bool) → old.is_passed ≡ b → new.is_passed ≡ c
+      → IsRunWith files (begun_of old) left written last sum lines → IsRunWith files (begun_of new) left written last next lines
+  first_as p g o true true e f h =
+      let same : begun_of old ≡ begun_of new = begun_same (begun_of old) (begun_of new) (ap (λ v. v.items) (sym p.octets)) (sym p.done) (e ∙ sym f) in
+      let nothing : newly_passed old new ≡ [] = ap (λ (b : Bool). if_passed b new.is_passed new.octets.items) e in
+      let P : Begun → Type 0 = λ b. IsRunWith files b left written last next lines in
+      subst P same (with_sum files (begun_of old) left written last sum next lines (λ its s. g its s ∙ ap (λ (x : List (List ℕ)). chain_of (its ++ x)) nothing ∙ ap chain_of (append-nil its)) h)
+  first_as p g o false false e f h =
+      let same : begun_of old ≡ begun_of new = begun_same (begun_of old) (begun_of new) (ap (λ v. v.items) (sym p.octets)) (sym p.done) (e ∙ sym f) in
+      let nothing : newly_passed old new ≡ [] = ap (λ (b : Bool). if_passed old.is_passed b new.octets.items) f ∙ ap (λ (b : Bool). if_passed b false new.octets.items) e in
+      let P : Begun → Type 0 = λ b. IsRunWith files b left written last next lines in
+      subst P same (with_sum files (begun_of old) left written last sum next lines (λ its s. g its s ∙ ap (λ (x : List (List ℕ)). chain_of (its ++ x)) nothing ∙ ap chain_of (append-nil its)) h)
+  first_as p g o true false e f h = absurd (opposed new.is_passed (p.passed.1 (inl e)) f)
+  first_as p g o false true e f h =
+      let done : old.done ≡ length old.octets.items = ⊎_elim (λ (was : IsTrue old.is_passed). absurd (opposed old.is_passed was e)) (λ (d : old.done ≡ length old.octets.items). d) (p.passed.0 f) in
+      let its : newly_passed old new ≡ old.octets.items ∷ [] =
+      ap (λ (b : Bool). if_passed b new.is_passed new.octets.items) e ∙ ap (λ (b : Bool). if_passed false b new.octets.items) f ∙ ap (λ v. v.items ∷ []) p.octets in
+      let same : as_passed (begun_of old) ≡ begun_of new =
+      begun_same (as_passed (begun_of old)) (begun_of new) (ap (λ v. v.items) (sym p.octets)) (sym p.done) (sym f) in
+      let P : Begun → Type 0 = λ b. IsRunWith files b left written last next lines in
+      let more : next ≡ chain_after sum (sha256 old.octets.items) =
+      g (passed_of h.parts) h.sum_is ∙ ap (λ (x : List (List ℕ)). chain_of (passed_of h.parts ++ x)) its
+      ∙ line_more (passed_of h.parts) old.octets.items ∙ ap (λ (x : List ℕ). chain_after x (sha256 old.octets.items)) (sym h.sum_is) in
+      subst P same (first_passes (begun_of old) left written last sum next lines files o e done more h)
+
+pub first_passes_now : (files : Option (List File)) (old new : Pending) (batch : Batch) (last : Pending) (sum next : List ℕ) (lines : List (List ℕ)) → IfSome files (λ fs. IsOpen fs)
+    → Passes old new → Goes sum next (newly_passed old new) → Of files old batch last sum lines → Of files new batch last next lines
+first_passes_now None old new batch last sum next lines opens p g h = h
+first_passes_now (Some fs) old new batch last sum next lines opens p g h = record {
+  left = h.left;
+  written = h.written;
+  batch_is = h.batch_is;
+  run_is = first_as fs old new h.left h.written (begun_of last) sum next lines p g opens old.is_passed new.is_passed refl refl h.run_is;
+}
+
+pub entries_wrote : (before after : Option (List File)) (first : Pending) (old new : Batch) (last : Pending) (sum : List ℕ) (lines : List (List ℕ)) → IfSome before (λ fs. IsOpen fs) → first.is_passed ≡ true
     → after ≡ wrote before (slice_range old.octets.items old.done new.done) → Keeps old new → old.done ≤ new.done → Fits new → new.whole ≡ old.whole
-    → Of before first old last lines → Of after first new last lines
-entries_wrote None after first old new last lines opens b e keeps l fits w h = let P : Option (List File) → Type 0 = λ x. Of x first new last lines in subst P (sym e) h
-entries_wrote (Some fs) after first old new last lines opens b e keeps l fits w h =
-    let P : Option (List File) → Type 0 = λ x. Of x first new last lines in
+    → Of before first old last sum lines → Of after first new last sum lines
+entries_wrote None after first old new last sum lines opens t e keeps l fits w h = let P : Option (List File) → Type 0 = λ x. Of x first new last sum lines in subst P (sym e) h
+entries_wrote (Some fs) after first old new last sum lines opens t e keeps l fits w h =
+    let P : Option (List File) → Type 0 = λ x. Of x first new last sum lines in
     let now : ℕ = h.written + (new.done - old.done) in
     let to : List File = with_octets fs (slice_range (concat h.left) h.written now) in
     let range : slice_range old.octets.items old.done new.done ≡ slice_range (concat h.left) h.written now =
     same_range old new h.left h.written now (omega (arith, h.batch_is.written_is)) h.batch_is in
     let new_left : IsLeft new h.left now = left_written old new h.left h.written now keeps l (omega arith) w h.batch_is in
-    let is : IsRunOf to first new last lines = record {
+    let all : first.done ≡ length first.octets.items = first_is_done fs h.run_is.parts (begun_of first) h.left h.written (begun_of last) opens h.run_is.open_is t in
+    let is : IsRunOf to first new last sum lines = record {
       left = h.left;
       written = now;
       batch_is = new_left;
-      run_is = entries_step first.octets.items first.done h.left h.written last.octets.items last.done lines now fs opens b (omega arith) (written_within new new h.left now fits new_left) h.run_is;
+      run_is = entries_step (begun_of first) h.left h.written (begun_of last) sum lines now fs opens t all (omega arith) (written_within new new h.left now fits new_left) h.run_is;
     } in
     subst P (sym (e ∙ ap (λ (x : List ℕ). Some (with_octets fs x)) range)) is
 
-pub end_wrote : (before after : Option (List File)) (first : Pending) (batch : Batch) (old new : Pending) (lines : List (List ℕ)) → IfSome before (λ fs. IsOpen fs) → first.done ≡ length first.octets.items
-    → batch.done ≡ length batch.octets.items → after ≡ wrote before (slice_range old.octets.items old.done new.done) → new.octets.items ≡ old.octets.items → old.done ≤ new.done
-    → Of before first batch old lines → Of after first batch new lines
-end_wrote None after first batch old new lines opens b d e o l h = let P : Option (List File) → Type 0 = λ x. Of x first batch new lines in subst P (sym e) h
-end_wrote (Some fs) after first batch old new lines opens b d e o l h =
-    let P : Option (List File) → Type 0 = λ x. Of x first batch new lines in
+pub end_wrote : (before after : Option (List File)) (first : Pending) (batch : Batch) (old new : Pending) (sum : List ℕ) (lines : List (List ℕ)) → IfSome before (λ fs. IsOpen fs) → first.is_passed ≡ true
+    → batch.whole ≡ length batch.ends.items → after ≡ wrote before (slice_range old.octets.items old.done new.done) → new.octets.items ≡ old.octets.items → new.is_passed ≡ old.is_passed
+    → old.done ≤ new.done → new.done ≤ length old.octets.items → Of before first batch old sum lines → Of after first batch new sum lines
+end_wrote None after first batch old new sum lines opens t d e o p l k h = let P : Option (List File) → Type 0 = λ x. Of x first batch new sum lines in subst P (sym e) h
+end_wrote (Some fs) after first batch old new sum lines opens t d e o p l k h =
+    let P : Option (List File) → Type 0 = λ x. Of x first batch new sum lines in
     let to : List File = with_octets fs (slice_range old.octets.items old.done new.done) in
-    let Q : List ℕ → Type 0 = λ x. IsRunWith to first.octets.items first.done h.left h.written x new.done lines in
-    let is : IsRunOf to first batch new lines = record {
+    let same : with_done (begun_of old) new.done ≡ begun_of new = begun_same (with_done (begun_of old) new.done) (begun_of new) (sym o) refl (sym p) in
+    let Q : Begun → Type 0 = λ b. IsRunWith to (begun_of first) h.left h.written b sum lines in
+    let all : first.done ≡ length first.octets.items = first_is_done fs h.run_is.parts (begun_of first) h.left h.written (begun_of old) opens h.run_is.open_is t in
+    let is : IsRunOf to first batch new sum lines = record {
       left = h.left;
       written = h.written;
       batch_is = h.batch_is;
-      run_is = subst Q (sym o) (end_step first.octets.items first.done h.left h.written old.octets.items old.done lines new.done fs opens b (all_written batch batch h.left h.written d h.batch_is) l h.run_is);
+      run_is = subst Q same (end_step (begun_of first) h.left h.written (begun_of old) sum lines new.done fs opens t all (none_left batch batch h.left h.written d h.batch_is) l k h.run_is);
     } in
     subst P (sym e) is
 
-pub passed : (files : Option (List File)) (first : Pending) (old new : Batch) (last : Pending) (lines : List (List ℕ)) → IfSome files (λ fs. IsOpen fs) → first.done ≡ length first.octets.items
+-- The line that ends the run is passed, where it is written whole and was not passed before.
+module _ (files : List File) (first : Begun) (old new : Pending) (left : List (List ℕ)) (written : ℕ) (sum next : List ℕ) (lines : List (List ℕ)) where
+  end_as : Passes old new → Goes sum next (newly_passed old new) → IsOpen files → first.is_passed ≡ true → left ≡ [] → 0 < length old.octets.items
+      → (b c : Bool) → old.is_passed ≡ b → new.is_passed ≡ c
+      → IsRunWith files first left written (begun_of old) sum lines → IsRunWith files first left written (begun_of new) next lines
+  end_as p g o t none some true true e f h =
+      let same : begun_of old ≡ begun_of new = begun_same (begun_of old) (begun_of new) (ap (λ v. v.items) (sym p.octets)) (sym p.done) (e ∙ sym f) in
+      let nothing : newly_passed old new ≡ [] = ap (λ (b : Bool). if_passed b new.is_passed new.octets.items) e in
+      let P : Begun → Type 0 = λ b. IsRunWith files first left written b next lines in
+      subst P same (with_sum files first left written (begun_of old) sum next lines (λ its s. g its s ∙ ap (λ (x : List (List ℕ)). chain_of (its ++ x)) nothing ∙ ap chain_of (append-nil its)) h)
+  end_as p g o t none some false false e f h =
+      let same : begun_of old ≡ begun_of new = begun_same (begun_of old) (begun_of new) (ap (λ v. v.items) (sym p.octets)) (sym p.done) (e ∙ sym f) in
+      let nothing : newly_passed old new ≡ [] = ap (λ (b : Bool). if_passed old.is_passed b new.octets.items) f ∙ ap (λ (b : Bool). if_passed b false new.octets.items) e in
+      let P : Begun → Type 0 = λ b. IsRunWith files first left written b next lines in
+      subst P same (with_sum files first left written (begun_of old) sum next lines (λ its s. g its s ∙ ap (λ (x : List (List ℕ)). chain_of (its ++ x)) nothing ∙ ap chain_of (append-nil its)) h)
+  end_as p g o t none some true false e f h = absurd (opposed new.is_passed (p.passed.1 (inl e)) f)
+  end_as p g o t none some false true e f h =
+      let done : old.done ≡ length old.octets.items =
+      ⊎_elim (λ (was : IsTrue old.is_passed). absurd (opposed old.is_passed was e)) (λ (d : old.done ≡ length old.octets.items). d) (p.passed.0 f) in
+      let its : newly_passed old new ≡ old.octets.items ∷ [] =
+      ap (λ (b : Bool). if_passed b new.is_passed new.octets.items) e ∙ ap (λ (b : Bool). if_passed false b new.octets.items) f ∙ ap (λ v. v.items ∷ []) p.octets in
+      let same : as_passed (begun_of old) ≡ begun_of new =
+      begun_same (as_passed (begun_of old)) (begun_of new) (ap (λ v. v.items) (sym p.octets)) (sym p.done) (sym f) in
+      let P : Begun → Type 0 = λ b. IsRunWith files first left written b next lines in
+      let more : next ≡ chain_after sum (sha256 old.octets.items) =
+      g (passed_of h.parts) h.sum_is ∙ ap (λ (x : List (List ℕ)). chain_of (passed_of h.parts ++ x)) its
+      ∙ line_more (passed_of h.parts) old.octets.items ∙ ap (λ (x : List ℕ). chain_after x (sha256 old.octets.items)) (sym h.sum_is) in
+      subst P same (end_passes first left written (begun_of old) sum next lines files o t e none done some more h)
+
+pub end_passes_now : (files : Option (List File)) (first : Pending) (batch : Batch) (old new : Pending) (sum next : List ℕ) (lines : List (List ℕ)) → IfSome files (λ fs. IsOpen fs) → first.is_passed ≡ true
+    → batch.whole ≡ length batch.ends.items → 0 < length old.octets.items → Passes old new → Goes sum next (newly_passed old new)
+    → Of files first batch old sum lines → Of files first batch new next lines
+end_passes_now None first batch old new sum next lines opens t d some p g h = h
+end_passes_now (Some fs) first batch old new sum next lines opens t d some p g h = record {
+  left = h.left;
+  written = h.written;
+  batch_is = h.batch_is;
+  run_is = end_as fs (begun_of first) old new h.left h.written sum next lines p g opens t (none_left batch batch h.left h.written d h.batch_is) some old.is_passed new.is_passed refl refl h.run_is;
+}
+
+pub passed : (files : Option (List File)) (first : Pending) (old new : Batch) (last : Pending) (sum next : List ℕ) (lines : List (List ℕ)) → IfSome files (λ fs. IsOpen fs) → first.is_passed ≡ true
     → Keeps old new → new.done ≡ old.done → new.whole ≡ old.whole + 1 → old.whole < length old.ends.items → get_or old.ends.items old.whole 0 ≤ old.done
-    → Of files first old last lines → Of files first new last lines
-passed None first old new last lines opens b keeps d w some end h = h
-passed (Some fs) first old new last lines opens b keeps d w some end h =
-    let p : Passed new h.left h.written = left_passed old new h.left h.written keeps d w some end h.batch_is in
-    let P : List (List ℕ) → Type 0 = λ x. IsRunWith fs first.octets.items first.done x h.written last.octets.items last.done lines in
+    → ((held : List (List ℕ)) → HoldsLines old held → Goes sum next (get_or held old.whole [] ∷ []))
+    → Of files first old last sum lines → Of files first new last next lines
+passed None first old new last sum next lines opens t keeps d w some end g h = h
+passed (Some fs) first old new last sum next lines opens t keeps d w some end g h =
+    let p : Passed old new h.left h.written = left_passed old new h.left h.written keeps d w some end h.batch_is in
+    let P : List (List ℕ) → Type 0 = λ x. IsRunWith fs (begun_of first) x h.written (begun_of last) sum lines in
+    let all : first.done ≡ length first.octets.items = first_is_done fs h.run_is.parts (begun_of first) h.left h.written (begun_of last) opens h.run_is.open_is t in
+    let line_is : get_or p.held old.whole [] ≡ p.line = sym p.line_is in
+    let its : List (List ℕ) = passed_of h.run_is.parts in
+    let more : next ≡ chain_after sum (sha256 p.line) =
+    g p.held p.held_is its h.run_is.sum_is ∙ line_more its (get_or p.held old.whole [])
+    ∙ ap (λ (x : List ℕ). chain_after (chain_of its) (sha256 x)) line_is ∙ ap (λ (x : List ℕ). chain_after x (sha256 p.line)) (sym h.run_is.sum_is) in
     record {
       left = p.more;
       written = p.now;
       batch_is = p.batch_is;
-      run_is = passed_step first.octets.items first.done p.line p.more h.written last.octets.items last.done lines p.now fs opens b p.sum (subst P p.left_is h.run_is);
+      run_is = passed_step (begun_of first) p.line p.more h.written (begun_of last) sum next lines p.now fs opens t all p.sum more (subst P p.left_is h.run_is);
     }
+
+pub was_synced : (before after : Option (List File)) (first : Pending) (batch : Batch) (last : Pending) (sum : List ℕ) (lines : List (List ℕ)) → after ≡ synced before
+    → Of before first batch last sum lines → Of after first batch last sum lines
+was_synced None after first batch last sum lines e h = let P : Option (List File) → Type 0 = λ x. Of x first batch last sum lines in subst P (sym e) h
+was_synced (Some fs) after first batch last sum lines e h =
+    let P : Option (List File) → Type 0 = λ x. Of x first batch last sum lines in
+    let is : IsRunOf (with_synced fs) first batch last sum lines = record {
+      left = h.left;
+      written = h.written;
+      batch_is = h.batch_is;
+      run_is = synced_step (begun_of first) h.left h.written (begun_of last) sum lines fs h.run_is;
+    } in
+    subst P (sym e) is
+
+-- What a sync leaves, whether it held or not.
+pub after_sync : {T E : Type 0} (result : Result T E) (before after : Option (List File)) (first : Pending) (batch : Batch) (last : Pending) (sum : List ℕ) (lines : List (List ℕ))
+    → MatchResult result (λ _. after ≡ synced before) (λ _. after ≡ before) → Of before first batch last sum lines → Of after first batch last sum lines
+after_sync (Ok t) before after first batch last sum lines e h = was_synced before after first batch last sum lines e h
+after_sync (Err f) before after first batch last sum lines e h = let P : Option (List File) → Type 0 = λ x. Of x first batch last sum lines in subst P (sym e) h

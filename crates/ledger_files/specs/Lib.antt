@@ -1,7 +1,9 @@
 pub mod Batches
 pub mod Calendar
+pub mod Chains
 pub mod Files
 pub mod FileNames
 pub mod Moments
+pub mod Passing
 pub mod Rotation
 pub mod Runs

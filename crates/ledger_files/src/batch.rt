@@ -1,10 +1,23 @@
 //! The lines of entries that are put together before they are written.
 
-ghost use Rattle.std.specs.Prelude.{◌≡◌, ◌≤◌, vec_len};
+ghost use Rattle.std.specs.Prelude.{◌≡◌, ◌≤◌, ◌<◌, vec_len};
 
+use crate::chain::{Chain, SUM_OCTETS};
+use crate::digests::digest_lines;
 use crate::disk::{DiskFault, LedgerDisk};
 use crate::pending::write_rest;
 use std::alloc::{AllocError, Global};
+use std::marker::Sync;
+use std::thread::Threads;
+
+/// From how many octets on the lines are shared out among threads to be digested, if they are long.
+const SHARED: usize = 65_536;
+
+/// How many octets long lines have, on average.
+const LONG: usize = 2048;
+
+/// How many threads digest such lines, this one among them.
+const THREADS: usize = 3;
 
 /// What a line is of: an entry, or a request that is left.
 #[derive(Clone, Copy, Debug, PartialEq, Eq)]
@@ -29,13 +42,16 @@ pub struct Batch {
     ends: Vec<usize>,
     /// How many of the lines are written whole.
     whole: usize,
+    /// The SHA-256 of each of the first lines, as far as they were digested.
+    digests: Vec<[u8; SUM_OCTETS]>,
     ghost written: { (start ≤ done) × (done ≤ vec_len octets) },
     ghost counted: { (vec_len heads ≡ vec_len ends) × (whole ≤ vec_len ends) },
 }
 
 impl Batch {
-    ghost use Rattle.std.specs.Prelude.{◌≡◌, ◌↔◌, ◌+◌, ◌-◌, ◌≤◌, ◌<◌, ℕ, List, [], ◌∷◌, ◌++◌, vec_len, slice_index, slice_range, IsOk, IsTrue, IfOk, OnOk, MatchResult, MatchOption};
+    ghost use Rattle.std.specs.Prelude.{◌≡◌, ◌↔◌, ◌+◌, ◌-◌, ◌≤◌, ◌<◌, ℕ, List, [], ◌∷◌, ◌++◌, vec_len, slice_index, slice_index_or, slice_range, IsOk, IsTrue, IfOk, OnOk, MatchResult, MatchOption};
     ghost use Rattle.ledger_files.specs.Batches.{HoldsLines, IsHeadOf};
+    ghost use Rattle.ledger_files.specs.Chains.{chain_of};
     ghost use Rattle.ledger_files.specs.Files.{wrote};
 
     /// Makes an empty batch, with room for so many octets and lines.
@@ -54,6 +70,7 @@ impl Batch {
             heads: Vec::with_capacity(alloc, lines)?,
             ends: Vec::with_capacity(alloc, lines)?,
             whole: 0,
+            digests: Vec::with_capacity(alloc, lines)?,
         })
     }
 
@@ -106,6 +123,7 @@ impl Batch {
         self.heads.clear();
         self.ends.clear();
         self.whole = 0;
+        self.digests.clear();
     }
 
     /// Adds a line behind the others.
@@ -123,6 +141,23 @@ impl Batch {
         self.octets.extend_from_slice(line)?;
         self.heads.push_reserved(head);
         self.ends.push_reserved(self.octets.len());
+        Ok(())
+    }
+
+    /// Digests all lines, by a few threads if they are long and many. Lines that were not digested are when they are passed.
+    ///
+    /// # Errors
+    ///
+    /// `AllocError` if memory is refused. None of the lines is digested then.
+    pub fn digest<R: Threads + Sync>(&mut self, rt: &R) -> Result<(), AllocError>
+        ensures lines { (lines : List (List ℕ)) → HoldsLines self.old lines → HoldsLines self.new lines }
+        ensures all { OnOk result (vec_len self.new.digests ≡ vec_len self.old.ends) }
+        ensures same { (self.new.done ≡ self.old.done) × (self.new.whole ≡ self.old.whole) × (self.new.octets ≡ self.old.octets) × (self.new.heads ≡ self.old.heads) × (self.new.ends ≡ self.old.ends) }
+    {
+        let octets = self.octets.as_slice();
+        let ends = self.ends.as_slice();
+        let threads = threads_for(octets.len(), ends.len());
+        digest_lines(rt, octets, ends, threads, &mut self.digests)?;
         Ok(())
     }
 
@@ -144,13 +179,15 @@ impl Batch {
         outcome
     }
 
-    /// Counts the next line as written whole, if it is, and returns what it is of.
+    /// Passes the next line as written whole, if it is, and returns what it is of. It is then the next one of the chain.
     #[tactic(auto, using(crate::proofs::Ends::holds_same, crate::proofs::Ends::holds_passed))]
-    pub fn pass_line(&mut self) -> Option<LineHead>
+    pub fn pass_line(&mut self, chain: &mut Chain) -> Option<LineHead>
         ensures lines { (lines : List (List ℕ)) → HoldsLines self.old lines → HoldsLines self.new lines }
         ensures same { (self.new.done ≡ self.old.done) × (self.new.octets ≡ self.old.octets) × (self.new.heads ≡ self.old.heads) × (self.new.ends ≡ self.old.ends) }
         ensures passed { MatchOption result (self.new.whole ≡ self.old.whole) (λ head. (self.new.whole ≡ self.old.whole + 1) × IsHeadOf self.old head × (slice_index self.old.ends.items self.old.whole ≤ self.old.done)) }
         ensures rest { MatchOption result (self.old.whole < vec_len self.old.ends → self.old.done < slice_index self.old.ends.items self.old.whole) (λ _. Unit {0}) }
+        ensures none { MatchOption result (chain.new ≡ chain.old) (λ _. Unit {0}) }
+        ensures chain { MatchOption result (Unit {0}) (λ _. (held : List (List ℕ)) → HoldsLines self.old held → (lines : List (List ℕ)) → chain.old.sum ≡ chain_of lines → chain.new.sum ≡ chain_of (lines ++ slice_index_or held self.old.whole [] ∷ [])) }
     {
         if self.whole == self.ends.len() {
             return None;
@@ -160,6 +197,10 @@ impl Batch {
             return None;
         }
         let head = self.heads[self.whole];
+        match self.digests.get(self.whole) {
+            Some(digest) => chain.add_digest(*digest),
+            None => chain.add(&self.octets[self.start.min(end)..end]),
+        }
         self.start = end;
         self.whole += 1;
         Some(head)
@@ -171,5 +212,17 @@ impl Batch {
         ensures done { (self.new.done ≡ self.old.start) × (self.new.whole ≡ self.old.whole) }
     {
         self.done = self.start;
+    }
+}
+
+/// Returns how many threads digest so many lines, which have so many octets together. Short lines are digested in less time
+/// than threads take to start.
+fn threads_for(octets: usize, lines: usize) -> usize
+    ensures { 0 < result }
+{
+    if octets < SHARED || octets / LONG < lines {
+        1
+    } else {
+        THREADS
     }
 }

@@ -3,6 +3,9 @@
 ghost use Rattle.std.specs.Prelude.{◌≡◌, ◌↔◌, ◌≤◌, ◌<◌, ◌^◌, ℕ, List, length, take, Option, None, IfSome, IsTrue, MatchResult, string_bytes};
 ghost use Rattle.ledger_files.specs.Files.{File, made, wrote, synced, IsOpen, octets_of_open};
 
+use crate::chain::SUM_OCTETS;
+use std::alloc::Global;
+
 /// Why a step on a disk failed. A step that the system refused has the system's error number, or 0 if it gave none.
 #[derive(Clone, Copy, Debug, PartialEq, Eq)]
 pub enum DiskFault {
@@ -14,6 +17,17 @@ pub enum DiskFault {
     Write(u32),
     /// A file could not be synced.
     Sync(u32),
+}
+
+/// A file that a run found in its folder.
+#[derive(Drop)]
+pub struct FoundFile {
+    /// Its name in the folder.
+    pub name: String,
+    /// How many octets it had.
+    pub octets: u64,
+    /// Their SHA-256.
+    pub sha256: [u8; SUM_OCTETS],
 }
 
 /// Keeps one file of a ledger open at a time.
@@ -54,6 +68,10 @@ pub trait LedgerDisk {
     /// `Write` if the system refuses it.
     fn write(&mut self, octets: &[u8]) -> Result<usize, DiskFault>
         ensures { MatchResult result (λ count. (count ≤ length octets.now) × (files self.new ≡ wrote (files self.old) (take count octets.now))) (λ _. files self.new ≡ files self.old) };
+
+    /// Finds the file of another run than this one that was written last in this folder. There is none if there is no such
+    /// file, or if it can't be read.
+    fn find_before(&self, alloc: Global, folder: &str, run: u64) -> Option<FoundFile>;
 
     /// Has the system put on its disk what was written to the file that is open, if there is one.
     ///

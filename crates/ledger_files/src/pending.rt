@@ -1,8 +1,9 @@
 //! Octets that are to be written, and how far they are written.
 
-ghost use Rattle.std.specs.Prelude.{◌≡◌, ◌↔◌, ◌≤◌, length, vec_len, slice_range, IsOk, IsTrue, OnOk};
+ghost use Rattle.std.specs.Prelude.{◌≡◌, ◌≤◌, length, vec_len, slice_range, IsOk, OnOk};
 ghost use Rattle.ledger_files.specs.Files.{wrote};
 
+use crate::chain::Chain;
 use crate::disk::{DiskFault, LedgerDisk};
 
 /// Writes octets that are written up to `done`, and returns up to where they are written then. If all are written, it
@@ -38,20 +39,31 @@ pub fn write_rest<D: LedgerDisk>(
     }
 }
 
-/// Octets that are to be written, and how many of them are.
+/// The octets of a line that are to be written, and how many of them are.
 #[derive(Drop)]
 pub struct Pending {
     octets: Vec<u8>,
     done: usize,
+    /// Whether the line was passed as written whole.
+    is_passed: bool,
     ghost within: { done ≤ vec_len octets },
 }
 
 impl Pending {
+    ghost use Rattle.std.specs.Prelude.{◌≡◌, ◌↔◌, ◌≤◌, ◌++◌, false, ℕ, List, vec_len, slice_range, IsOk, IsTrue, OnOk};
+    ghost use Rattle.ledger_files.specs.Chains.{chain_of};
+    ghost use Rattle.ledger_files.specs.Files.{wrote};
+    ghost use Rattle.ledger_files.specs.Passing.{Passes, newly_passed};
+
     /// Makes a value of octets, none of which is written.
     pub fn new(octets: Vec<u8>) -> Pending
-        ensures { (result.octets.items ≡ octets.items) × (result.done ≡ 0) }
+        ensures { (result.octets.items ≡ octets.items) × (result.done ≡ 0) × (result.is_passed ≡ false) }
     {
-        Pending { octets, done: 0 }
+        Pending {
+            octets,
+            done: 0,
+            is_passed: false,
+        }
     }
 
     /// Returns whether all octets are written.
@@ -68,11 +80,23 @@ impl Pending {
         self.octets.is_empty()
     }
 
-    /// Has all octets be written again, to another file.
-    pub fn begin_again(&mut self)
-        ensures { (self.new.octets ≡ self.old.octets) × (self.new.done ≡ 0) }
+    /// Returns whether the line was passed as written whole.
+    pub fn is_passed(&self) -> bool
+        ensures { result ≡ self.now.is_passed }
     {
-        self.done = 0;
+        self.is_passed
+    }
+
+    /// Passes the line as written whole, if it is and was not passed before: it is then the next one of the chain.
+    pub fn pass(&mut self, chain: &mut Chain)
+        ensures passes { Passes self.old self.new }
+        ensures chain { (lines : List (List ℕ)) → chain.old.sum ≡ chain_of lines → chain.new.sum ≡ chain_of (lines ++ newly_passed self.old self.new) }
+    {
+        if self.is_passed || !self.is_done() {
+            return;
+        }
+        chain.add(self.octets.as_slice());
+        self.is_passed = true;
     }
 
     /// Writes the octets that are not written yet.
@@ -81,7 +105,7 @@ impl Pending {
     ///
     /// That of [`write_rest`]. What was written before counts as written.
     pub fn write<D: LedgerDisk>(&mut self, disk: &mut D) -> Result<(), DiskFault>
-        ensures octets { self.new.octets ≡ self.old.octets }
+        ensures octets { (self.new.octets ≡ self.old.octets) × (self.new.is_passed ≡ self.old.is_passed) }
         ensures written { (self.old.done ≤ self.new.done) × (D.files disk.new ≡ wrote (D.files disk.old) (slice_range self.old.octets.items self.old.done self.new.done)) }
         ensures all { OnOk result (self.new.done ≡ vec_len self.old.octets) }
         ensures none { self.old.done ≡ vec_len self.old.octets → (disk.new ≡ disk.old) × IsOk result }

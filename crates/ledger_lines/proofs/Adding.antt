@@ -65,6 +65,10 @@ keyed a b c name value same e p = record {
       ∙ ap (λ ts. a.tokens ++ key name ∷ ts) (sym (append-nil (json_tokens value)));
 }
 
+pub keyed_last : {E : Type 0} (r : Result (Unit {0}) E) (a b c : Written) (name : List ℕ) (value : Json) → b.before ≡ a.before → b.tokens ≡ a.tokens ++ key name ∷ [] → OnOk r (Adds b c (json_tokens value)) → OnOk r (AddsSlots a c ((name, Some value) ∷ []))
+keyed_last (Ok x) a b c name value same e p = keyed a b c name value same e p
+keyed_last (Err f) a b c name value same e p = tt
+
 -- a list, item by item
 pub listed : {X : Type 0} (value : X → Json) (a b c : Written) (name : List ℕ) (xs ys : List X) → xs ≡ ys → b.before ≡ a.before → b.tokens ≡ a.tokens ++ key name ∷ [] → Adds b c (json_tokens (array (items_of value xs))) → AddsSlots a c ((name, Some (array (items_of value ys))) ∷ [])
 listed value a b c name xs ys is same e p = subst (λ zs. AddsSlots a c ((name, Some (array (items_of value zs))) ∷ [])) is (keyed a b c name (array (items_of value xs)) same e p)

@@ -9,14 +9,19 @@ use Rattle.rad_ledger.specs.declared.entry.Entry.{Entry}
 use Rattle.rad_ledger.specs.declared.left.Left.{Left}
 use Rattle.ledger_lines.specs.declared.begin.Begin.{Begin}
 use Rattle.ledger_lines.specs.declared.begin.End.{End}
+use Rattle.ledger_lines.specs.declared.begin.FileBefore.{FileBefore}
 use Rattle.ledger_lines.specs.declared.begin.LaneCount.{LaneCount}
 use Rattle.ledger_lines.specs.declared.begin.LaneStart.{LaneStart}
-use Rattle.ledger_lines.specs.Written.{begin_slots, begin_value, count_slots, count_value, digits_if_any, end_slots, end_value, entry_slots, entry_value, items_of, left_slots, left_value, number_value, octets_value, start_slots, start_value, text_if_any}
+use Rattle.ledger_lines.specs.Written.{begin_slots, begin_value, count_slots, count_value, digits_if_any, end_slots, end_value, entry_slots, entry_value, file_slots, file_value, items_of, left_slots, left_value, number_value, octets_value, start_slots, start_value, text_if_any}
 use Rattle.ledger_lines.proofs.Members.{IsFine, MayBeFine, fine_object}
 
 any_number : (most : ℕ) (its : Option ℕ) → MayBeFine most (option_map number_value its)
 any_number most None = tt
 any_number most (Some n) = (omega arith, tt)
+
+any_octets : (most : ℕ) (its : Option (List ℕ)) → MayBeFine most (option_map octets_value its)
+any_octets most None = tt
+any_octets most (Some octets) = (omega arith, tt)
 
 fine_items : {X : Type 0} (value : X → Json) (most : ℕ) → ((x : X) → IsFine most (value x)) → (xs : List X) → (items_depth (items_of value xs) ≤ most) × ItemsHaveUniqueKeys (items_of value xs)
 fine_items value most fine [] = (omega arith, tt)
@@ -37,7 +42,10 @@ fine_count count = fine_object 0 (count_slots count) refl ((omega arith, tt), ((
 pub fine_end : (end : End) → IsFine 128 (end_value end)
 fine_end end =
     deeper 3 128 (end_value end) (omega arith)
-    (fine_object 2 (end_slots end) refl ((omega arith, tt), ((omega arith, tt), ((omega arith, tt), (fine_array count_value 1 fine_count end.lanes.items, tt)))))
+    (fine_object 2 (end_slots end) refl (
+      (omega arith, tt),
+      ((omega arith, tt), ((omega arith, tt), (any_octets 2 end.sum, (fine_array count_value 1 fine_count end.lanes.items, tt)))),
+    ))
 
 any_text : (most : ℕ) (its : Option (List ℕ)) → MayBeFine most (option_map string its)
 any_text most None = tt
@@ -58,10 +66,29 @@ any_digits (Some octets) = either_fine 0 (is_utf8 octets) None (Some (octets_val
 fine_start : (start : LaneStart) → IsFine 1 (start_value start)
 fine_start start = fine_object 0 (start_slots start) refl ((omega arith, tt), ((omega arith, tt), ((omega arith, tt), tt)))
 
+fine_file : (file : FileBefore) → IsFine 1 (file_value file)
+fine_file file = fine_object 0 (file_slots file) refl ((omega arith, tt), ((omega arith, tt), ((omega arith, tt), tt)))
+
+any_file : (its : Option FileBefore) → MayBeFine 2 (option_map file_value its)
+any_file None = tt
+any_file (Some file) = deeper 1 2 (file_value file) (omega arith) (fine_file file)
+
 pub fine_begin : (begin : Begin) → IsFine 128 (begin_value begin)
 fine_begin begin =
     deeper 3 128 (begin_value begin) (omega arith)
-    (fine_object 2 (begin_slots begin) refl ((omega arith, tt), ((omega arith, tt), ((omega arith, tt), ((omega arith, tt), ((omega arith, tt), (fine_array start_value 1 fine_start begin.lanes.items, tt)))))))
+    (fine_object 2 (begin_slots begin) refl (
+      (omega arith, tt),
+      (
+        (omega arith, tt),
+        (
+          (omega arith, tt),
+          (
+            (omega arith, tt),
+            ((omega arith, tt), (any_octets 2 begin.sum, (any_file begin.before, (fine_array start_value 1 fine_start begin.lanes.items, tt)))),
+          ),
+        ),
+      ),
+    ))
 
 pub fine_entry : (e : Entry) → IsFine 128 (entry_value e)
 fine_entry e =

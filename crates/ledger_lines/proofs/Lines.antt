@@ -5,12 +5,14 @@ use Rattle.std.specs.Bool.{IsTrue}
 use Rattle.std.proofs.Math.Bool.{beq}
 use Rattle.json.specs.Json.{Json, number}
 use Rattle.json.specs.Find.{get}
-use Rattle.ledger_lines.specs.Lines.{Denies, HasText, HasNumber, HasOctets, MayHaveNumber, MayHaveWords, HasOnly, keys_of_entry, HasRun, HasTime, HasClient, HasAuthenticator, HasLanes, HasState, MayHaveTime, keys_of_left, IsEntry, IsLeft, IsBegin, IsEnd, IsLaneStart, IsLaneCount}
+use Rattle.ledger_lines.specs.Lines.{Denies, HasText, HasNumber, HasOctets, MayHaveNumber, MayHaveWords, HasOnly, keys_of_entry, HasRun, HasTime, HasClient, HasAuthenticator, HasLanes, HasState, MayHaveTime, keys_of_left, HasArray, MayHaveSum, MayHaveFile, HasFile, keys_of_begin, IsFileBefore, IsHidden, IsEntry, IsLeft, IsBegin, IsEnd, IsLaneStart, IsLaneCount}
 use Rattle.rad_ledger.specs.declared.entry.Entry.{Entry}
 use Rattle.rad_ledger.specs.declared.left.Left.{Left}
 use Rattle.rad_ledger.specs.declared.left.LeftState.{LeftState}
 use Rattle.ledger_lines.specs.declared.begin.Begin.{Begin}
 use Rattle.ledger_lines.specs.declared.begin.End.{End}
+use Rattle.ledger_lines.specs.declared.begin.FileBefore.{FileBefore}
+use Rattle.ledger_lines.specs.declared.begin.Hidden.{Hidden}
 use Rattle.ledger_lines.specs.declared.begin.LaneStart.{LaneStart}
 use Rattle.ledger_lines.specs.declared.begin.LaneCount.{LaneCount}
 use Rattle.ledger_lines.specs.declared.faults.LineFault.{LineFault}
@@ -152,7 +154,7 @@ module _ (value : Json) (fault : LineFault) where
   abbrev pub IsBeginThere : Type 0
   IsBeginThere = (x : Begin) × IsBegin value x
 
-  pub begin_members : ¬ HasOnly (codes "type" ∷ codes "run" ∷ codes "time" ∷ codes "version" ∷ codes "file" ∷ codes "lanes" ∷ []) value → ¬ IsBeginThere
+  pub begin_members : ¬ HasOnly keys_of_begin value → ¬ IsBeginThere
   begin_members n p = n p.1.no_other
 
   pub begin_run : Denies fault ((x : ℕ) × HasRun value x) → Denies fault IsBeginThere
@@ -167,13 +169,19 @@ module _ (value : Json) (fault : LineFault) where
   pub begin_file : Denies fault ((x : ℕ) × HasNumber (codes "file") (2 ^ 64) value x) → Denies fault IsBeginThere
   begin_file = denied ((x : ℕ) × HasNumber (codes "file") (2 ^ 64) value x) IsBeginThere (λ p. (p.0.file, p.1.file)) fault
 
+  pub begin_sum : Denies fault ((x : Option (List ℕ)) × MayHaveSum (codes "sum") value x) → Denies fault IsBeginThere
+  begin_sum = denied ((x : Option (List ℕ)) × MayHaveSum (codes "sum") value x) IsBeginThere (λ p. (p.0.sum, p.1.sum)) fault
+
+  pub begin_before : Denies fault ((x : Option FileBefore) × MayHaveFile value x) → Denies fault IsBeginThere
+  begin_before = denied ((x : Option FileBefore) × MayHaveFile value x) IsBeginThere (λ p. (p.0.before, p.1.before)) fault
+
   pub begin_lanes : Denies fault ((x : List LaneStart) × HasLanes IsLaneStart value x) → Denies fault IsBeginThere
   begin_lanes = denied ((x : List LaneStart) × HasLanes IsLaneStart value x) IsBeginThere (λ p. (p.0.lanes.items, p.1.lanes)) fault
 
   abbrev pub IsEndThere : Type 0
   IsEndThere = (x : End) × IsEnd value x
 
-  pub end_members : ¬ HasOnly (codes "type" ∷ codes "run" ∷ codes "time" ∷ codes "lanes" ∷ []) value → ¬ IsEndThere
+  pub end_members : ¬ HasOnly (codes "type" ∷ codes "run" ∷ codes "time" ∷ codes "sum" ∷ codes "lanes" ∷ []) value → ¬ IsEndThere
   end_members n p = n p.1.no_other
 
   pub end_run : Denies fault ((x : ℕ) × HasRun value x) → Denies fault IsEndThere
@@ -182,8 +190,35 @@ module _ (value : Json) (fault : LineFault) where
   pub end_time : Denies fault ((x : List ℕ) × HasTime (codes "time") value x) → Denies fault IsEndThere
   end_time = denied ((x : List ℕ) × HasTime (codes "time") value x) IsEndThere (λ p. (p.0.time.now, p.1.time)) fault
 
+  pub end_sum : Denies fault ((x : Option (List ℕ)) × MayHaveSum (codes "sum") value x) → Denies fault IsEndThere
+  end_sum = denied ((x : Option (List ℕ)) × MayHaveSum (codes "sum") value x) IsEndThere (λ p. (p.0.sum, p.1.sum)) fault
+
   pub end_lanes : Denies fault ((x : List LaneCount) × HasLanes IsLaneCount value x) → Denies fault IsEndThere
   end_lanes = denied ((x : List LaneCount) × HasLanes IsLaneCount value x) IsEndThere (λ p. (p.0.lanes.items, p.1.lanes)) fault
+
+  abbrev pub IsFileThere : Type 0
+  IsFileThere = (x : FileBefore) × IsFileBefore value x
+
+  pub file_members : ¬ HasOnly (codes "name" ∷ codes "octets" ∷ codes "sha256" ∷ []) value → ¬ IsFileThere
+  file_members n p = n p.1.no_other
+
+  pub file_name : Denies fault ((x : List ℕ) × HasText (codes "name") value x) → Denies fault IsFileThere
+  file_name = denied ((x : List ℕ) × HasText (codes "name") value x) IsFileThere (λ p. (p.0.name.now, p.1.name)) fault
+
+  pub file_octets : Denies fault ((x : ℕ) × HasNumber (codes "octets") (2 ^ 64) value x) → Denies fault IsFileThere
+  file_octets = denied ((x : ℕ) × HasNumber (codes "octets") (2 ^ 64) value x) IsFileThere (λ p. (p.0.octets, p.1.octets)) fault
+
+  pub file_sha256 : Denies fault ((x : List ℕ) × HasArray (codes "sha256") 32 value x) → Denies fault IsFileThere
+  file_sha256 = denied ((x : List ℕ) × HasArray (codes "sha256") 32 value x) IsFileThere (λ p. (p.0.sha256, p.1.sha256)) fault
+
+  abbrev pub IsHiddenThere : Type 0
+  IsHiddenThere = (x : Hidden) × IsHidden value x
+
+  pub hidden_members : ¬ HasOnly (codes "type" ∷ codes "sum" ∷ []) value → ¬ IsHiddenThere
+  hidden_members n p = n p.1.no_other
+
+  pub hidden_sum : Denies fault ((x : List ℕ) × HasArray (codes "sum") 32 value x) → Denies fault IsHiddenThere
+  hidden_sum = denied ((x : List ℕ) × HasArray (codes "sum") 32 value x) IsHiddenThere (λ p. (p.0.sum, p.1.sum)) fault
 
   abbrev pub IsStartThere : Type 0
   IsStartThere = (x : LaneStart) × IsLaneStart value x
@@ -241,3 +276,24 @@ one_there key limit value (Some m) (Some n) a b = refl
 pub one_alone : (value : Json) (accepted left : Option ℕ) → MayHaveNumber (codes "accepted") (2 ^ 64) value accepted → MayHaveNumber (codes "left") (2 ^ 64) value left → is_some accepted ≢ is_some left → ¬ ((x : LaneCount) × IsLaneCount value x)
 one_alone value accepted left a l n p =
     n (one_there (codes "accepted") (2 ^ 64) value accepted p.0.accepted a p.1.accepted ∙ p.1.both_or_none ∙ sym (one_there (codes "left") (2 ^ 64) value left p.0.left l p.1.left))
+
+-- ---- the file of another run that a value may name
+
+module _ (value : Json) where
+  abbrev pub FileIfAnyThere : Type 0
+  FileIfAnyThere = (before : Option FileBefore) × MayHaveFile value before
+
+  pub no_file : None ≡ get (codes "before") value → MayHaveFile value None
+  no_file e = sym e
+
+  pub file_found : (found : Json) (file : FileBefore) → Some found ≡ get (codes "before") value → IsFileBefore found file → MayHaveFile value (Some file)
+  file_found found file e is = record { found = found; there = sym e; is = is }
+
+  file_of : (found : Json) → Some found ≡ get (codes "before") value → FileIfAnyThere → (x : FileBefore) × IsFileBefore found x
+  file_of found e (None, n) = absurd (differ (get (codes "before") value) found (sym n) (sym e))
+  file_of found e (Some file, h) =
+      let same : h.found ≡ found = subst (λ o. MatchOption o ⊤ (λ z. h.found ≡ z)) (sym h.there ∙ sym e) refl in
+      (file, subst (λ j. IsFileBefore j file) same h.is)
+
+  pub no_file_in : (fault : LineFault) (found : Json) → Some found ≡ get (codes "before") value → Denies fault ((x : FileBefore) × IsFileBefore found x) → Denies fault FileIfAnyThere
+  no_file_in fault found e d = denied ((x : FileBefore) × IsFileBefore found x) FileIfAnyThere (file_of found e) fault d

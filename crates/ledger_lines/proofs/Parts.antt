@@ -10,7 +10,7 @@ use Rattle.json.specs.declared.error.Error.{Error}
 use Rattle.json.specs.declared.error.Error.TheVariants.{Invalid, OutOfMemory, TooLong, DuplicateKey}
 use Rattle.hex.specs.Hex.{decode_of}
 use Rattle.rad_realms.specs.Address.{address_in}
-use Rattle.ledger_lines.specs.Lines.{Denies, HasText, HasNumber, HasOctets, HasArray, HasRun, HasState, HasTime, IsTime, HasClient, MayHaveNumber, MayHaveTime, MayHaveWords, IsValue, state_text}
+use Rattle.ledger_lines.specs.Lines.{Denies, HasText, HasNumber, HasOctets, HasArray, HasRun, HasState, HasTime, IsTime, HasClient, MayHaveNumber, MayHaveSum, MayHaveTime, MayHaveWords, IsValue, state_text}
 use Rattle.ledger_lines.specs.declared.faults.LineFault.{LineFault}
 use Rattle.rad_ledger.specs.declared.left.LeftState.{LeftState}
 use Rattle.rad_ledger.specs.declared.left.LeftState.TheVariants.{Queued, Outstanding, Untaken}
@@ -143,6 +143,19 @@ module _ (key : List ℕ) (value : Json) where
 
   pub no_time_if_any : (fault : LineFault) (found : Json) → Some found ≡ get key value → Denies fault TimeThere → Denies fault TimeIfAnyThere
   no_time_if_any fault found f d = denied TimeThere TimeIfAnyThere (time_of found f) fault d
+
+  abbrev pub SumIfAnyThere : Type 0
+  SumIfAnyThere = (sum : Option (List ℕ)) × MayHaveSum key value sum
+
+  pub sum_none : None ≡ get key value → MayHaveSum key value None
+  sum_none e = sym e
+
+  sum_of : (found : Json) → Some found ≡ get key value → SumIfAnyThere → ArrayThere key 32 value
+  sum_of found f (None, n) = absurd (differ (get key value) found (sym n) (sym f))
+  sum_of found f (Some sum, h) = (sum, h)
+
+  pub no_sum_if_any : (fault : LineFault) (found : Json) → Some found ≡ get key value → Denies fault (ArrayThere key 32 value) → Denies fault SumIfAnyThere
+  no_sum_if_any fault found f d = denied (ArrayThere key 32 value) SumIfAnyThere (sum_of found f) fault d
 
   abbrev pub CountThere : ℕ → Type 0
   CountThere limit = (its : Option ℕ) × MayHaveNumber key limit value its

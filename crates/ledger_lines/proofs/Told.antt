@@ -13,15 +13,16 @@ use Rattle.json.specs.Json.{Json, string}
 use Rattle.json.specs.Find.{get}
 use Rattle.hex.specs.Hex.{IsBytes, encode_lower, lower_digits}
 use Rattle.hex.proofs.HexLemmas.{decode_of-encode_lower, length-encode_with}
-use Rattle.ledger_lines.specs.Lines.{AreEach, HasNumber, MayHaveNumber, HasOctets, HasArray, HasRun, HasClient, IsBegin, IsEnd, IsEntry, IsLaneCount, IsLaneStart, IsLeft, MayHaveTime, MayHaveWords}
+use Rattle.ledger_lines.specs.Lines.{AreEach, HasNumber, MayHaveNumber, HasOctets, HasArray, HasRun, HasClient, IsBegin, IsEnd, IsEntry, IsFileBefore, IsLaneCount, IsLaneStart, IsLeft, MayHaveFile, MayHaveSum, MayHaveTime, MayHaveWords}
 use Rattle.rad_config.proofs.Addresses.{address_from_text}
 use Rattle.rad_realms.specs.Address.{IsAddress}
 use Rattle.rad_realms.specs.Printed.{address_text}
 use Rattle.rad_ledger.specs.declared.entry.Entry.{Entry}
 use Rattle.rad_ledger.specs.declared.left.Left.{Left}
 use Rattle.ledger_lines.specs.declared.begin.Begin.{Begin}
+use Rattle.ledger_lines.specs.declared.begin.FileBefore.{FileBefore}
 use Rattle.ledger_lines.specs.declared.begin.LaneStart.{LaneStart}
-use Rattle.ledger_lines.specs.Written.{AreBytesIfAny, IsBelowIfAny, IsReadableBegin, IsReadableCount, IsReadableEnd, IsReadableEntry, IsReadableLeft, IsReadableStart, IsTimeIfAny, begin_slots, begin_value, count_slots, count_value, digits_if_any, end_slots, end_value, entry_slots, entry_value, items_of, left_slots, left_value, number_value, octets_value, start_slots, start_value, text_if_any}
+use Rattle.ledger_lines.specs.Written.{AreBytesIfAny, IsBelowIfAny, IsReadableBegin, IsReadableCount, IsReadableEnd, IsReadableEntry, IsReadableFile, IsReadableFileIfAny, IsReadableLeft, IsReadableStart, IsSumIfAny, IsTimeIfAny, begin_slots, begin_value, count_slots, count_value, digits_if_any, end_slots, end_value, entry_slots, entry_value, file_slots, file_value, items_of, left_slots, left_value, number_value, octets_value, start_slots, start_value, text_if_any}
 use Rattle.ledger_lines.specs.declared.begin.End.{End}
 use Rattle.ledger_lines.specs.declared.begin.LaneCount.{LaneCount}
 use Rattle.ledger_lines.proofs.Members.{get_found, only_names}
@@ -61,6 +62,10 @@ array_there key count value octets e long small = record {
   long = length-encode_with lower_digits octets ∙ ap (λ (n : ℕ). 2 * n) long;
   are = decode_of-encode_lower octets small;
 }
+
+sum_if_there : (key : List ℕ) (value : Json) (sum : Option (List ℕ)) → get key value ≡ option_map octets_value sum → IsSumIfAny sum → MayHaveSum key value sum
+sum_if_there key value None e is = e
+sum_if_there key value (Some sum) e is = array_there key 32 value sum e is.long is.octets
 
 -- each octet of a number is one
 abbrev AreOctets : List ℕ → Type 0
@@ -124,6 +129,7 @@ end_read end h =
       type_is = at (codes "type");
       run = run_there (end_value end) end.run (at (codes "run")) h.run;
       time = record { there = at (codes "time"); is = h.time };
+      sum = sum_if_there (codes "sum") (end_value end) end.sum (at (codes "sum")) h.sum;
       lanes = record {
         items = items_of count_value end.lanes.items;
         there = at (codes "lanes");
@@ -214,6 +220,20 @@ is_start start h =
       serial = number_there (codes "serial") (2 ^ 63) (start_value start) start.serial (at (codes "serial")) (omega (arith, h.serial)) h.serial;
     }
 
+is_file : (file : FileBefore) → IsReadableFile file → IsFileBefore (file_value file) file
+is_file file h =
+    let at = λ (key : List ℕ). get_found key (file_slots file) refl in
+    record {
+      no_other = only_names (file_slots file);
+      name = at (codes "name");
+      octets = number_there (codes "octets") (2 ^ 64) (file_value file) file.octets (at (codes "octets")) h.octets h.octets;
+      sha256 = array_there (codes "sha256") 32 (file_value file) file.sha256 (at (codes "sha256")) h.sha256.long h.sha256.octets;
+    }
+
+file_if_there : (value : Json) (file : Option FileBefore) → get (codes "before") value ≡ option_map file_value file → IsReadableFileIfAny file → MayHaveFile value file
+file_if_there value None e h = e
+file_if_there value (Some file) e h = record { found = file_value file; there = e; is = is_file file h }
+
 pub begin_read : (begin : Begin) → IsReadableBegin begin → IsBegin (begin_value begin) begin
 begin_read begin h =
     let at = λ (key : List ℕ). get_found key (begin_slots begin) refl in
@@ -224,6 +244,8 @@ begin_read begin h =
       time = record { there = at (codes "time"); is = h.time };
       version = at (codes "version");
       file = number_there (codes "file") (2 ^ 64) (begin_value begin) begin.file (at (codes "file")) h.file h.file;
+      sum = sum_if_there (codes "sum") (begin_value begin) begin.sum (at (codes "sum")) h.sum;
+      before = file_if_there (begin_value begin) begin.before (at (codes "before")) h.before;
       lanes = record {
         items = items_of start_value begin.lanes.items;
         there = at (codes "lanes");

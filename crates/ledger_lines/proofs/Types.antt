@@ -5,8 +5,8 @@ use Rattle.json.specs.Find.{as_str}
 use Rattle.ledger_lines.specs.Lines.{Denies, HasText, IsLine, IsLineOf, IsValue}
 use Rattle.ledger_lines.specs.declared.faults.LineFault.{LineFault}
 use Rattle.ledger_lines.specs.declared.reading.Line.{Line}
-use Rattle.ledger_lines.specs.declared.reading.Line.TheVariants.{Begin as begins, Entry as enters, Left as leaves, End as ends}
-use Rattle.ledger_lines.proofs.Lines.{denied, IsEntryThere, IsLeftThere, IsBeginThere, IsEndThere}
+use Rattle.ledger_lines.specs.declared.reading.Line.TheVariants.{Begin as begins, Entry as enters, Left as leaves, End as ends, Hidden as hides}
+use Rattle.ledger_lines.proofs.Lines.{denied, IsEntryThere, IsLeftThere, IsBeginThere, IsEndThere, IsHiddenThere}
 use Rattle.ledger_lines.proofs.Found.{same_some, TextThere}
 use Rattle.ledger_lines.proofs.Parts.{ValueThere}
 
@@ -19,6 +19,7 @@ module _ (value : Json) (fault : LineFault) where
   type_of (enters e, p) = (codes "entry", p.type_is)
   type_of (leaves l, p) = (codes "left", p.type_is)
   type_of (ends e, p) = (codes "end", p.type_is)
+  type_of (hides h, p) = (codes "hidden", p.type_is)
 
   pub no_type : Denies fault (TextThere (codes "type") value) → Denies fault LineThere
   no_type d = denied (TextThere (codes "type") value) LineThere type_of fault d
@@ -32,6 +33,7 @@ module _ (value : Json) (fault : LineFault) where
     entry_in e (enters x, p) = (x, p)
     entry_in e (leaves x, p) = absurd (omega (arith, ap length (sym e ∙ one_type (codes "left") p.type_is)))
     entry_in e (ends x, p) = absurd (omega (arith, ap length (sym e ∙ one_type (codes "end") p.type_is)))
+    entry_in e (hides x, p) = absurd (omega (arith, ap length (sym e ∙ one_type (codes "hidden") p.type_is)))
 
     pub entry_denied : text ≡ codes "entry" → Denies fault (IsEntryThere value fault) → Denies fault LineThere
     entry_denied e d = denied (IsEntryThere value fault) LineThere (entry_in e) fault d
@@ -41,6 +43,7 @@ module _ (value : Json) (fault : LineFault) where
     left_in e (enters x, p) = absurd (omega (arith, ap length (sym e ∙ one_type (codes "entry") p.type_is)))
     left_in e (leaves x, p) = (x, p)
     left_in e (ends x, p) = absurd (omega (arith, ap length (sym e ∙ one_type (codes "end") p.type_is)))
+    left_in e (hides x, p) = absurd (omega (arith, ap length (sym e ∙ one_type (codes "hidden") p.type_is)))
 
     pub left_denied : text ≡ codes "left" → Denies fault (IsLeftThere value fault) → Denies fault LineThere
     left_denied e d = denied (IsLeftThere value fault) LineThere (left_in e) fault d
@@ -50,6 +53,7 @@ module _ (value : Json) (fault : LineFault) where
     begin_in e (enters x, p) = absurd (omega (arith, ap (λ xs. get_or xs 0 0) (sym e ∙ one_type (codes "entry") p.type_is)))
     begin_in e (leaves x, p) = absurd (omega (arith, ap length (sym e ∙ one_type (codes "left") p.type_is)))
     begin_in e (ends x, p) = absurd (omega (arith, ap length (sym e ∙ one_type (codes "end") p.type_is)))
+    begin_in e (hides x, p) = absurd (omega (arith, ap length (sym e ∙ one_type (codes "hidden") p.type_is)))
 
     pub begin_denied : text ≡ codes "begin" → Denies fault (IsBeginThere value fault) → Denies fault LineThere
     begin_denied e d = denied (IsBeginThere value fault) LineThere (begin_in e) fault d
@@ -59,15 +63,27 @@ module _ (value : Json) (fault : LineFault) where
     end_in e (enters x, p) = absurd (omega (arith, ap length (sym e ∙ one_type (codes "entry") p.type_is)))
     end_in e (leaves x, p) = absurd (omega (arith, ap length (sym e ∙ one_type (codes "left") p.type_is)))
     end_in e (ends x, p) = (x, p)
+    end_in e (hides x, p) = absurd (omega (arith, ap length (sym e ∙ one_type (codes "hidden") p.type_is)))
 
     pub end_denied : text ≡ codes "end" → Denies fault (IsEndThere value fault) → Denies fault LineThere
     end_denied e d = denied (IsEndThere value fault) LineThere (end_in e) fault d
 
-    pub other_denied : text ≢ codes "entry" → text ≢ codes "left" → text ≢ codes "begin" → text ≢ codes "end" → ¬ LineThere
-    other_denied n l b e (begins x, p) = b (one_type (codes "begin") p.type_is)
-    other_denied n l b e (enters x, p) = n (one_type (codes "entry") p.type_is)
-    other_denied n l b e (leaves x, p) = l (one_type (codes "left") p.type_is)
-    other_denied n l b e (ends x, p) = e (one_type (codes "end") p.type_is)
+    hidden_in : text ≡ codes "hidden" → LineThere → IsHiddenThere value fault
+    hidden_in e (begins x, p) = absurd (omega (arith, ap length (sym e ∙ one_type (codes "begin") p.type_is)))
+    hidden_in e (enters x, p) = absurd (omega (arith, ap length (sym e ∙ one_type (codes "entry") p.type_is)))
+    hidden_in e (leaves x, p) = absurd (omega (arith, ap length (sym e ∙ one_type (codes "left") p.type_is)))
+    hidden_in e (ends x, p) = absurd (omega (arith, ap length (sym e ∙ one_type (codes "end") p.type_is)))
+    hidden_in e (hides x, p) = (x, p)
+
+    pub hidden_denied : text ≡ codes "hidden" → Denies fault (IsHiddenThere value fault) → Denies fault LineThere
+    hidden_denied e d = denied (IsHiddenThere value fault) LineThere (hidden_in e) fault d
+
+    pub other_denied : text ≢ codes "entry" → text ≢ codes "left" → text ≢ codes "begin" → text ≢ codes "end" → text ≢ codes "hidden" → ¬ LineThere
+    other_denied n l b e h (begins x, p) = b (one_type (codes "begin") p.type_is)
+    other_denied n l b e h (enters x, p) = n (one_type (codes "entry") p.type_is)
+    other_denied n l b e h (leaves x, p) = l (one_type (codes "left") p.type_is)
+    other_denied n l b e h (ends x, p) = e (one_type (codes "end") p.type_is)
+    other_denied n l b e h (hides x, p) = h (one_type (codes "hidden") p.type_is)
 
 module _ (octets : List ℕ) (fault : LineFault) where
   abbrev pub IsLineThere : Type 0

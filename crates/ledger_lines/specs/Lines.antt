@@ -17,12 +17,14 @@ use Rattle.rad_ledger.specs.declared.left.LeftState.TheVariants.{Queued, Outstan
 use Rattle.ledger_lines.specs.Moments.{IsMoment}
 use Rattle.ledger_lines.specs.declared.begin.Begin.{Begin}
 use Rattle.ledger_lines.specs.declared.begin.End.{End}
+use Rattle.ledger_lines.specs.declared.begin.FileBefore.{FileBefore}
+use Rattle.ledger_lines.specs.declared.begin.Hidden.{Hidden}
 use Rattle.ledger_lines.specs.declared.begin.LaneStart.{LaneStart}
 use Rattle.ledger_lines.specs.declared.begin.LaneCount.{LaneCount}
 use Rattle.ledger_lines.specs.declared.faults.LineFault.{LineFault}
 use Rattle.ledger_lines.specs.declared.faults.LineFault.TheVariants.{NotALine, OutOfMemory}
 use Rattle.ledger_lines.specs.declared.reading.Line.{Line}
-use Rattle.ledger_lines.specs.declared.reading.Line.TheVariants.{Begin as begins, Entry as enters, Left as leaves, End as ends}
+use Rattle.ledger_lines.specs.declared.reading.Line.TheVariants.{Begin as begins, Entry as enters, Left as leaves, End as ends, Hidden as hides}
 
 -- A fault tells that nothing is there, where it is not want of memory.
 abbrev pub Denies : LineFault → Type 0 → Type 0
@@ -85,6 +87,11 @@ pub record HasArray (key : List ℕ) (count : ℕ) (value : Json) (octets : List
   pub there : HasText key value digits
   pub long : length digits ≡ 2 * count
   pub are : decode_of digits ≡ Ok octets
+
+-- A SHA-256 that may be there.
+abbrev pub MayHaveSum : List ℕ → Json → Option (List ℕ) → Type 0
+MayHaveSum key value None = Lacks key value
+MayHaveSum key value (Some sum) = HasArray key 32 value sum
 
 -- A run's name: a number of eight octets.
 pub record HasRun (value : Json) (run : ℕ) : Type 0 where
@@ -211,27 +218,58 @@ pub record IsLaneCount (value : Json) (count : LaneCount) : Type 0 where
   pub left : MayHaveNumber (codes "left") (2 ^ 64) value count.left
   pub both_or_none : is_some count.accepted ≡ is_some count.left
 
+-- The file of another run, which the first line of a file may name.
+pub record IsFileBefore (value : Json) (file : FileBefore) : Type 0 where
+  pub no_other : HasOnly (codes "name" ∷ codes "octets" ∷ codes "sha256" ∷ []) value
+  pub name : HasText (codes "name") value file.name.now
+  pub octets : HasNumber (codes "octets") (2 ^ 64) value file.octets
+  pub sha256 : HasArray (codes "sha256") 32 value file.sha256
+
+pub record HasFile (value : Json) (file : FileBefore) : Type 0 where
+  pub found : Json
+  pub there : get (codes "before") value ≡ Some found
+  pub is : IsFileBefore found file
+
+abbrev pub MayHaveFile : Json → Option FileBefore → Type 0
+MayHaveFile value None = Lacks (codes "before") value
+MayHaveFile value (Some file) = HasFile value file
+
+-- The keys of the first line of a file, with those that it may lack.
+abbrev pub keys_of_begin : List (List ℕ)
+keys_of_begin =
+    codes "type" ∷ codes "run" ∷ codes "time" ∷ codes "version" ∷ codes "file" ∷ codes "sum" ∷ codes "before" ∷ codes "lanes" ∷ []
+
 pub record IsBegin (value : Json) (begin : Begin) : Type 0 where
-  pub no_other : HasOnly (codes "type" ∷ codes "run" ∷ codes "time" ∷ codes "version" ∷ codes "file" ∷ codes "lanes" ∷ []) value
+  pub no_other : HasOnly keys_of_begin value
   pub type_is : HasText (codes "type") value (codes "begin")
   pub run : HasRun value begin.run
   pub time : HasTime (codes "time") value begin.time.now
   pub version : HasText (codes "version") value begin.version.now
   pub file : HasNumber (codes "file") (2 ^ 64) value begin.file
+  pub sum : MayHaveSum (codes "sum") value begin.sum
+  pub before : MayHaveFile value begin.before
   pub lanes : HasLanes IsLaneStart value begin.lanes.items
 
 pub record IsEnd (value : Json) (end : End) : Type 0 where
-  pub no_other : HasOnly (codes "type" ∷ codes "run" ∷ codes "time" ∷ codes "lanes" ∷ []) value
+  pub no_other : HasOnly (codes "type" ∷ codes "run" ∷ codes "time" ∷ codes "sum" ∷ codes "lanes" ∷ []) value
   pub type_is : HasText (codes "type") value (codes "end")
   pub run : HasRun value end.run
   pub time : HasTime (codes "time") value end.time.now
+  pub sum : MayHaveSum (codes "sum") value end.sum
   pub lanes : HasLanes IsLaneCount value end.lanes.items
+
+-- A line that stands for one that is left out.
+pub record IsHidden (value : Json) (hidden : Hidden) : Type 0 where
+  pub no_other : HasOnly (codes "type" ∷ codes "sum" ∷ []) value
+  pub type_is : HasText (codes "type") value (codes "hidden")
+  pub sum : HasArray (codes "sum") 32 value hidden.sum
 
 abbrev pub IsLineOf : Json → Line → Type 0
 IsLineOf value (begins begin) = IsBegin value begin
 IsLineOf value (enters entry) = IsEntry value entry
 IsLineOf value (leaves left) = IsLeft value left
 IsLineOf value (ends end) = IsEnd value end
+IsLineOf value (hides hidden) = IsHidden value hidden
 
 -- Octets that are a value, in which no object has a key twice.
 pub record IsValue (octets : List ℕ) (value : Json) : Type 0 where

@@ -12,6 +12,7 @@ use Rattle.rad_ledger.specs.declared.left.Left.{Left}
 use Rattle.ledger_lines.specs.Lines.{IsTime, IsValue, state_text}
 use Rattle.ledger_lines.specs.declared.begin.Begin.{Begin}
 use Rattle.ledger_lines.specs.declared.begin.End.{End}
+use Rattle.ledger_lines.specs.declared.begin.FileBefore.{FileBefore}
 use Rattle.ledger_lines.specs.declared.begin.LaneCount.{LaneCount}
 use Rattle.ledger_lines.specs.declared.begin.LaneStart.{LaneStart}
 
@@ -110,10 +111,19 @@ start_slots start =
 abbrev pub start_value : LaneStart → Json
 start_value start = object_of (start_slots start)
 
+abbrev pub file_slots : FileBefore → List (List ℕ × Option Json)
+file_slots file =
+    (codes "name", Some (string file.name.now)) ∷ (codes "octets", Some (number_value file.octets))
+    ∷ (codes "sha256", Some (octets_value file.sha256)) ∷ []
+
+abbrev pub file_value : FileBefore → Json
+file_value file = object_of (file_slots file)
+
 abbrev pub begin_slots : Begin → List (List ℕ × Option Json)
 begin_slots begin =
     first_slots (codes "begin") begin.run begin.time.now
     ++ (codes "version", Some (string begin.version.now)) ∷ (codes "file", Some (number_value begin.file))
+    ∷ (codes "sum", option_map octets_value begin.sum) ∷ (codes "before", option_map file_value begin.before)
     ∷ (codes "lanes", Some (array (items_of start_value begin.lanes.items))) ∷ []
 
 abbrev pub begin_value : Begin → Json
@@ -129,16 +139,26 @@ abbrev pub count_value : LaneCount → Json
 count_value count = object_of (count_slots count)
 
 abbrev pub end_slots : End → List (List ℕ × Option Json)
-end_slots end = first_slots (codes "end") end.run end.time.now ++ (codes "lanes", Some (array (items_of count_value end.lanes.items))) ∷ []
+end_slots end =
+    first_slots (codes "end") end.run end.time.now
+    ++ (codes "sum", option_map octets_value end.sum) ∷ (codes "lanes", Some (array (items_of count_value end.lanes.items))) ∷ []
 
 abbrev pub end_value : End → Json
 end_value end = object_of (end_slots end)
 
--- What a reader asks of a number, of a number that may be there, of a lane that is counted, and of a line that ends a run. The types give
--- the bounds.
+-- What a reader asks of a number that may be there, of a sum, of a lane that is counted, and of a line that ends a run. The types give the
+-- bounds.
 abbrev pub IsBelowIfAny : ℕ → Option ℕ → Type 0
 IsBelowIfAny limit None = ⊤
 IsBelowIfAny limit (Some its) = its < limit
+
+pub record IsSum (sum : List ℕ) : Type 0 where
+  pub long : length sum ≡ 32
+  pub octets : IsBytes sum
+
+abbrev pub IsSumIfAny : Option (List ℕ) → Type 0
+IsSumIfAny None = ⊤
+IsSumIfAny (Some sum) = IsSum sum
 
 pub record IsReadableCount (count : LaneCount) : Type 0 where
   pub lane : count.lane < 2 ^ 16
@@ -150,16 +170,27 @@ pub record IsReadableCount (count : LaneCount) : Type 0 where
 pub record IsReadableEnd (end : End) : Type 0 where
   pub run : end.run < 2 ^ 64
   pub time : IsTime end.time.now
+  pub sum : IsSumIfAny end.sum
   pub lanes : All IsReadableCount end.lanes.items
 
 pub record IsReadableStart (start : LaneStart) : Type 0 where
   pub lane : start.lane < 2 ^ 16
   pub serial : start.serial < 2 ^ 63
 
+pub record IsReadableFile (file : FileBefore) : Type 0 where
+  pub octets : file.octets < 2 ^ 64
+  pub sha256 : IsSum file.sha256
+
+abbrev pub IsReadableFileIfAny : Option FileBefore → Type 0
+IsReadableFileIfAny None = ⊤
+IsReadableFileIfAny (Some file) = IsReadableFile file
+
 pub record IsReadableBegin (begin : Begin) : Type 0 where
   pub run : begin.run < 2 ^ 64
   pub time : IsTime begin.time.now
   pub file : begin.file < 2 ^ 64
+  pub sum : IsSumIfAny begin.sum
+  pub before : IsReadableFileIfAny begin.before
   pub lanes : All IsReadableStart begin.lanes.items
 
 -- The same of octets that may be there, of what names a request, of an entry, and of a request that was left.

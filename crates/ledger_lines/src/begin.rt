@@ -27,6 +27,23 @@ pub struct LaneCount {
     pub left: Option<u64>,
 }
 
+/// A file of another run, as the first file of a run names it.
+#[derive(Clone, Copy)]
+pub struct FileBefore<'a> {
+    /// Its name in the folder.
+    pub name: &'a str,
+    /// How many octets it had.
+    pub octets: u64,
+    /// Their SHA-256.
+    pub sha256: [u8; 32],
+}
+
+/// A line that is left out: the SHA-256 of that, with its line end, stands in its place.
+#[derive(Clone, Copy)]
+pub struct Hidden {
+    pub sum: [u8; 32],
+}
+
 /// The first line of a file: it names the run.
 #[derive(Drop)]
 pub struct Begin<'a> {
@@ -38,6 +55,10 @@ pub struct Begin<'a> {
     pub version: &'a str,
     /// How many files of the run there were before it.
     pub file: u64,
+    /// The chain of the run's lines before it, if the run has one.
+    pub sum: Option<[u8; 32]>,
+    /// The file of another run that was written last before this one began, if there was one.
+    pub before: Option<FileBefore<'a>>,
     /// The run's lanes.
     pub lanes: Vec<LaneStart<'a>>,
 }
@@ -49,6 +70,8 @@ pub struct End<'a> {
     pub run: u64,
     /// When it ended: RFC 3339, in UTC, with milliseconds.
     pub time: &'a str,
+    /// The chain of the run's lines before it, if the run has one.
+    pub sum: Option<[u8; 32]>,
     /// What was counted of its lanes.
     pub lanes: Vec<LaneCount>,
 }

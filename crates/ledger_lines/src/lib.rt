@@ -1,5 +1,5 @@
-//! The lines of a ledger: a line for each response that the front took, a line for each request that was left, and lines that name a
-//! run and end one.
+//! The lines of a ledger: a line for each response that the front took, a line for each request that was left, lines that name a
+//! run and end one, and lines that stand for others that are left out.
 //!
 //! [`read_line`] reads a line, and [`write_begin`], [`write_entry`], [`write_left`] and [`write_end`] write one. `specs/Lines.antt` says
 //! which octets are a line, and `specs/Written.antt` what is written.
@@ -14,7 +14,7 @@ mod reading;
 mod values;
 mod writing;
 
-pub use begin::{Begin, End, LaneCount, LaneStart};
+pub use begin::{Begin, End, FileBefore, Hidden, LaneCount, LaneStart};
 pub use faults::LineFault;
 pub use laws::written_lines_are_read;
 pub use moments::moment_of;

@@ -1,23 +1,25 @@
 //! Lines of a ledger, as they are read.
 
-ghost use Rattle.std.specs.Prelude.{◌≡◌, ◌++◌, [], ◌∷◌, IfErr, List, MatchResult, OnOk, codes};
+ghost use Rattle.std.specs.Prelude.{◌≡◌, ◌++◌, [], ◌∷◌, IfErr, List, MatchResult, OnOk, Option, codes};
 ghost use Rattle.json.specs.Value.{items_view, value_view};
 ghost use Rattle.ledger_lines.specs.declared.begin.Begin.{Begin as TheBegin};
 ghost use Rattle.ledger_lines.specs.declared.begin.End.{End as TheEnd};
 ghost use Rattle.ledger_lines.specs.declared.begin.LaneStart.{LaneStart as TheStart};
 ghost use Rattle.ledger_lines.specs.declared.begin.LaneCount.{LaneCount as TheCount};
+ghost use Rattle.ledger_lines.specs.declared.begin.FileBefore.{FileBefore as TheFile};
+ghost use Rattle.ledger_lines.specs.declared.begin.Hidden.{Hidden as TheHidden};
 ghost use Rattle.rad_ledger.specs.declared.entry.Entry.{Entry as TheEntry};
 ghost use Rattle.rad_ledger.specs.declared.left.Left.{Left as TheLeft};
 ghost use Rattle.ledger_lines.specs.declared.faults.LineFault.TheVariants.{OutOfMemory};
 ghost use Rattle.ledger_lines.specs.declared.reading.Line.{Line as TheLine};
-ghost use Rattle.ledger_lines.specs.Lines.{AreEach, Denies, HasLanes, HasText, IsBegin, IsEnd, IsEntry, IsLaneCount, IsLaneStart, IsLeft, IsLine, IsLineOf};
+ghost use Rattle.ledger_lines.specs.Lines.{AreEach, Denies, HasLanes, HasText, IsBegin, IsEnd, IsEntry, IsFileBefore, IsHidden, IsLaneCount, IsLaneStart, IsLeft, IsLine, IsLineOf, MayHaveFile};
 
-use crate::begin::{Begin, End, LaneCount, LaneStart};
+use crate::begin::{Begin, End, FileBefore, Hidden, LaneCount, LaneStart};
 use crate::faults::LineFault;
 use crate::values::{
     amount_at, authenticator_at, client_at, count_at, has_only, lanes_at, number_at, octet_at,
-    octets_at, read_value, run_at, serial_at, short_at, state_at, text_at, time_at, time_if_any_at,
-    words_at,
+    octets_at, read_value, run_at, serial_at, short_at, state_at, sum_at, sum_if_any_at, text_at,
+    time_at, time_if_any_at, words_at,
 };
 use json::{Scratch, Value};
 use rad_ledger::{Entry, Left};
@@ -35,6 +37,8 @@ pub enum Line<'a> {
     Left(Left<'a>),
     /// It ends a run.
     End(End<'a>),
+    /// It stands for a line that is left out.
+    Hidden(Hidden),
 }
 
 /// What a line is read with: it is used again for each line.
@@ -117,6 +121,7 @@ fn line_of<'a>(
         "left" => Ok(Line::Left(left_of(value, room)?)),
         "begin" => Ok(Line::Begin(begin_of(alloc, value)?)),
         "end" => Ok(Line::End(end_of(alloc, value)?)),
+        "hidden" => Ok(Line::Hidden(hidden_of(value)?)),
         _ => Err(LineFault::NotALine),
     }
 }
@@ -281,21 +286,74 @@ fn left_of<'a>(value: &Value<'a>, room: &'a mut Octets) -> Result<Left<'a>, Line
     })
 }
 
+/// The keys of the first line of a file, in the order in which they are written.
+const BEGIN_KEYS: [&str; 8] = [
+    "type", "run", "time", "version", "file", "sum", "before", "lanes",
+];
+
 /// The first line of a file that a value is.
 fn begin_of<'a>(alloc: Global, value: &Value<'a>) -> Result<Begin<'a>, LineFault>
     requires { HasText (codes "type") (value_view value.now) (codes "begin") }
     ensures { MatchResult result (λ begin. IsBegin (value_view value.now) begin) (λ fault. Denies fault ((begin : TheBegin) × IsBegin (value_view value.now) begin)) }
 {
-    if !has_only(value, &["type", "run", "time", "version", "file", "lanes"]) {
+    if !has_only(value, &BEGIN_KEYS) {
         return Err(LineFault::NotALine);
     }
+    let run = run_at(value)?;
+    let time = time_at(value, "time")?;
+    let version = text_at(value, "version")?;
+    let file = number_at(value, "file")?;
+    let sum = sum_if_any_at(value, "sum")?;
+    let before = before_at(value)?;
+    let lanes = starts_at(alloc, value)?;
     Ok(Begin {
-        run: run_at(value)?,
-        time: time_at(value, "time")?,
-        version: text_at(value, "version")?,
-        file: number_at(value, "file")?,
-        lanes: starts_at(alloc, value)?,
+        run,
+        time,
+        version,
+        file,
+        sum,
+        before,
+        lanes,
     })
+}
+
+/// The file of another run that the first line of a file names, where it names one.
+fn before_at<'a>(value: &Value<'a>) -> Result<Option<FileBefore<'a>>, LineFault>
+    ensures { MatchResult result (λ before. MayHaveFile (value_view value.now) before) (λ fault. Denies fault ((before : Option TheFile) × MayHaveFile (value_view value.now) before)) }
+{
+    match value.get("before") {
+        Some(found) => Ok(Some(file_of(found)?)),
+        None => Ok(None),
+    }
+}
+
+/// The file that a value names.
+fn file_of<'a>(value: &Value<'a>) -> Result<FileBefore<'a>, LineFault>
+    ensures { MatchResult result (λ file. IsFileBefore (value_view value.now) file) (λ fault. Denies fault ((file : TheFile) × IsFileBefore (value_view value.now) file)) }
+{
+    if !has_only(value, &["name", "octets", "sha256"]) {
+        return Err(LineFault::NotALine);
+    }
+    let name = text_at(value, "name")?;
+    let octets = number_at(value, "octets")?;
+    let sha256 = sum_at(value, "sha256")?;
+    Ok(FileBefore {
+        name,
+        octets,
+        sha256,
+    })
+}
+
+/// The line that is left out that a value stands for.
+fn hidden_of(value: &Value<'_>) -> Result<Hidden, LineFault>
+    requires { HasText (codes "type") (value_view value.now) (codes "hidden") }
+    ensures { MatchResult result (λ hidden. IsHidden (value_view value.now) hidden) (λ fault. Denies fault ((hidden : TheHidden) × IsHidden (value_view value.now) hidden)) }
+{
+    if !has_only(value, &["type", "sum"]) {
+        return Err(LineFault::NotALine);
+    }
+    let sum = sum_at(value, "sum")?;
+    Ok(Hidden { sum })
 }
 
 /// The lanes of the first line of a file.
@@ -336,13 +394,18 @@ fn end_of<'a>(alloc: Global, value: &Value<'a>) -> Result<End<'a>, LineFault>
     requires { HasText (codes "type") (value_view value.now) (codes "end") }
     ensures { MatchResult result (λ end. IsEnd (value_view value.now) end) (λ fault. Denies fault ((end : TheEnd) × IsEnd (value_view value.now) end)) }
 {
-    if !has_only(value, &["type", "run", "time", "lanes"]) {
+    if !has_only(value, &["type", "run", "time", "sum", "lanes"]) {
         return Err(LineFault::NotALine);
     }
+    let run = run_at(value)?;
+    let time = time_at(value, "time")?;
+    let sum = sum_if_any_at(value, "sum")?;
+    let lanes = counts_at(alloc, value)?;
     Ok(End {
-        run: run_at(value)?,
-        time: time_at(value, "time")?,
-        lanes: counts_at(alloc, value)?,
+        run,
+        time,
+        sum,
+        lanes,
     })
 }
 

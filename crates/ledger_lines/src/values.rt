@@ -7,7 +7,7 @@ ghost use Rattle.json.specs.Strict.{keys};
 ghost use Rattle.json.specs.Value.{items_view, members_view, value_view};
 ghost use Rattle.ledger_lines.specs.internal.Known.{IsAbsent};
 ghost use Rattle.rad_ledger.specs.declared.left.LeftState.{LeftState as TheState};
-ghost use Rattle.ledger_lines.specs.Lines.{as_items, Denies, HasAuthenticator, HasClient, HasList, HasNumber, HasOctets, HasOnly, HasRun, HasText, HasState, HasTime, HasTimeForm, has_form, IsTime, IsValue, MayHaveNumber, MayHaveTime, MayHaveWords};
+ghost use Rattle.ledger_lines.specs.Lines.{as_items, Denies, HasArray, HasAuthenticator, HasClient, HasList, HasNumber, HasOctets, HasOnly, HasRun, HasText, HasState, HasTime, HasTimeForm, has_form, IsTime, IsValue, MayHaveNumber, MayHaveSum, MayHaveTime, MayHaveWords};
 
 use crate::digits::{fill, octets_of};
 use crate::faults::LineFault;
@@ -183,6 +183,30 @@ pub(crate) fn authenticator_at(value: &Value<'_>) -> Result<[u8; 16], LineFault>
     } else {
         Err(LineFault::NotALine)
     }
+}
+
+/// A SHA-256 at a key: sixty-four hexadecimal digits.
+#[tactic(auto, using(crate::proofs::Parts::array_found, crate::proofs::Parts::no_array, crate::proofs::Parts::no_array_text))]
+pub(crate) fn sum_at(value: &Value<'_>, key: &str) -> Result<[u8; 32], LineFault>
+    ensures { MatchResult result (λ sum. HasArray key.now 32 (value_view value.now) sum) (λ fault. Denies fault ((sum : List ℕ) × HasArray key.now 32 (value_view value.now) sum)) }
+{
+    let digits = text_at(value, key)?;
+    let mut sum = [0; 32];
+    if fill(digits.as_bytes(), &mut sum) {
+        Ok(sum)
+    } else {
+        Err(LineFault::NotALine)
+    }
+}
+
+/// A SHA-256 at a key, where there is one.
+pub(crate) fn sum_if_any_at(value: &Value<'_>, key: &str) -> Result<Option<[u8; 32]>, LineFault>
+    ensures { MatchResult result (λ sum. MayHaveSum key.now (value_view value.now) sum) (λ fault. Denies fault ((sum : Option (List ℕ)) × MayHaveSum key.now (value_view value.now) sum)) }
+{
+    if value.get(key).is_none() {
+        return Ok(None);
+    }
+    Ok(Some(sum_at(value, key)?))
 }
 
 /// The moment at a key.

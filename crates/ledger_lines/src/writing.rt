@@ -1,14 +1,14 @@
 //! Lines of a ledger, as they are written.
 
-ghost use Rattle.std.specs.Prelude.{◌≡◌, [], ◌∷◌, IfOk, OnOk, Some, option_copied, option_map};
+ghost use Rattle.std.specs.Prelude.{◌≡◌, [], ◌∷◌, IfOk, OnOk, Some, codes, option_copied, option_map};
 ghost use Rattle.json.specs.Json.{array, string};
 ghost use Rattle.json.specs.Tree.{json_tokens};
 ghost use Rattle.ledger_lines.specs.internal.Adding.{Adds, AddsSlots, EndsLine, Opens};
 ghost use Rattle.ledger_lines.specs.Lines.{state_text as the_state_text};
-ghost use Rattle.ledger_lines.specs.Written.{HasLineBehind, HasValueBehind, begin_value, count_value, end_value, entry_value, first_slots, items_of, left_value, number_value, octets_value, request_slots, start_value, words_slots};
+ghost use Rattle.ledger_lines.specs.Written.{HasLineBehind, HasValueBehind, begin_value, count_value, end_value, entry_value, file_value, first_slots, items_of, left_value, number_value, octets_value, request_slots, start_value, words_slots};
 ghost use Rattle.rad_realms.specs.Printed.{address_text};
 
-use crate::begin::{Begin, End, LaneCount, LaneStart};
+use crate::begin::{Begin, End, FileBefore, LaneCount, LaneStart};
 use json::Writer;
 use rad_ledger::{Entry, Left, LeftState};
 use std::alloc::{AllocError, Global};
@@ -85,6 +85,8 @@ fn begin_members(alloc: Global, writer: &mut Writer, begin: &Begin<'_>) -> Resul
     first_members(alloc, writer, "begin", begin.run, begin.time)?;
     text(writer, "version", begin.version)?;
     number(writer, "file", begin.file)?;
+    digits_if_any(alloc, writer, "sum", begin.sum)?;
+    before_if_any(alloc, writer, begin.before)?;
     writer.key("lanes")?;
     lane_starts(writer, begin.lanes.as_slice())?;
     writer.end_object()
@@ -99,6 +101,32 @@ fn lane_starts(writer: &mut Writer, lanes: &[LaneStart<'_>]) -> Result<(), Alloc
         lane_start(writer, lane)?;
     }
     writer.end_array()
+}
+
+/// Writes the file of another run that such a line names, if it names one.
+fn before_if_any(
+    alloc: Global,
+    writer: &mut Writer,
+    before: Option<FileBefore<'_>>,
+) -> Result<(), AllocError>
+    ensures { OnOk result (AddsSlots writer.old writer.new ((codes "before", (option_map file_value before.entry)) ∷ [])) }
+{
+    let Some(file) = before else {
+        return Ok(());
+    };
+    writer.key("before")?;
+    file_members(alloc, writer, &file)
+}
+
+/// Writes the object of that file.
+fn file_members(alloc: Global, writer: &mut Writer, file: &FileBefore<'_>) -> Result<(), AllocError>
+    ensures { OnOk result (Adds writer.old writer.new (json_tokens (file_value file.now))) }
+{
+    writer.begin_object()?;
+    text(writer, "name", file.name)?;
+    number(writer, "octets", file.octets)?;
+    digits(alloc, writer, "sha256", &file.sha256)?;
+    writer.end_object()
 }
 
 /// Writes a lane of such a line.
@@ -209,6 +237,7 @@ fn end_members(alloc: Global, writer: &mut Writer, end: &End<'_>) -> Result<(), 
     ensures { OnOk result (Adds writer.old writer.new (json_tokens (end_value end.now))) }
 {
     first_members(alloc, writer, "end", end.run, end.time)?;
+    digits_if_any(alloc, writer, "sum", end.sum)?;
     writer.key("lanes")?;
     lane_counts(writer, end.lanes.as_slice())?;
     writer.end_object()
@@ -306,6 +335,21 @@ fn digits(alloc: Global, writer: &mut Writer, key: &str, octets: &[u8]) -> Resul
 {
     let digits = hex::encode(alloc, octets)?;
     text(writer, key, digits.as_str())
+}
+
+/// A SHA-256 as digits, where there is one.
+fn digits_if_any(
+    alloc: Global,
+    writer: &mut Writer,
+    key: &str,
+    sum: Option<[u8; 32]>,
+) -> Result<(), AllocError>
+    ensures { OnOk result (AddsSlots writer.old writer.new ((key.now, (option_map octets_value sum)) ∷ [])) }
+{
+    match sum {
+        Some(sum) => digits(alloc, writer, key, &sum),
+        None => Ok(()),
+    }
 }
 
 /// Octets that may be a text: under the one key as the text that they are, else under the other as digits.

@@ -38,15 +38,6 @@ fn name_in(line: &str) -> Option<&str>
     }
 }
 
-/// Splits a text around the first delimiter, an ASCII character.
-#[tactic(auto, unfolding(rad_config::specs::Address::around_first))]
-fn split_around(text: &str, delimiter: char) -> Option<(&str, &str)>
-    requires { delimiter < 128 }
-    ensures { option_map (λ parts. (parts.0.now, parts.1.now)) result ≡ around_first delimiter text.now }
-{
-    text.split_once(delimiter)
-}
-
 /// Adds the address that was named last, if a line says that it is local.
 ///
 /// # Errors
@@ -72,4 +63,13 @@ fn tells_local(line: &str) -> bool
     ensures { result ≡ is_local line.now }
 {
     line.as_bytes().starts_with(b"/32 host LOCAL")
+}
+
+/// For the proof: splits a text around the first delimiter, an ASCII character.
+#[tactic(auto, unfolding(rad_config::specs::Address::around_first))]
+fn split_around(text: &str, delimiter: char) -> Option<(&str, &str)>
+    requires { delimiter < 128 }
+    ensures { option_map (λ parts. (parts.0.now, parts.1.now)) result ≡ around_first delimiter text.now }
+{
+    text.split_once(delimiter)
 }

@@ -12,5 +12,5 @@ mod origins;
 
 pub use fib_trie::list_local;
 pub use known_addresses::KnownAddresses;
-pub use local_addresses::{LocalAddresses, RuntimeAddresses, read_local_addresses};
+pub use local_addresses::{LocalAddresses, read_local_addresses};
 pub use origins::Origins;

@@ -23,28 +23,6 @@ pub trait LocalAddresses {
     fn read(&self, alloc: Global) -> io::Result<Vec<[u8; 4]>>;
 }
 
-/// The addresses of the machine of a runtime.
-#[derive(Drop)]
-pub struct RuntimeAddresses<R> {
-    rt: R,
-}
-
-impl<R> RuntimeAddresses<R> {
-    pub fn new(rt: R) -> RuntimeAddresses<R> {
-        RuntimeAddresses { rt }
-    }
-}
-
-impl<R: Files> LocalAddresses for RuntimeAddresses<R>
-where
-    R::File: Drop,
-{
-    /// Reads them as [`read_local_addresses`] does.
-    fn read(&self, alloc: Global) -> io::Result<Vec<[u8; 4]>> {
-        read_local_addresses(&self.rt, alloc)
-    }
-}
-
 /// Returns the single IPv4 addresses of this machine, each at least once.
 ///
 /// # Errors

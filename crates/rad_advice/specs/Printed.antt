@@ -1,7 +1,7 @@
 -- The printed reports on a configuration (own).
-use Rattle.std.specs.Prelude.{ℕ, ◌/◌, ◌%◌, Bool, false, not, ◌&&◌, ◌==◌, nat_le, if◌then◌else◌, List, [], ◌∷◌, ◌++◌, length, take, codes, Option, Some, None, string_bytes}
-use Rattle.std.specs.List.{flat_map}
-use Rattle.std.specs.Fmt.{decimal, digits}
+use Rattle.std.specs.Prelude.{ℕ, nat_le, if◌then◌else◌, List, [], ◌++◌, length, take, codes, Option, Some, None, string_bytes}
+use Rattle.std.specs.Fmt.{decimal}
+use Rattle.rad_log.specs.Escaped.{escaped}
 use Rattle.rad_config.specs.declared.reading.faults.Part.{Part}
 use Rattle.rad_realms.specs.Spot.{part_name, index_text}
 use Rattle.rad_realms.specs.Printed.{endpoint_text}
@@ -18,17 +18,9 @@ place_text place = codes "line " ++ decimal place.line ++ codes ", column " ++ d
 abbrev pub syntax_text : SyntaxError → List ℕ
 syntax_text e = place_text e.place ++ codes ": " ++ string_bytes e.message
 
--- An octet of a name that is printed as it is: from `!` to `~`, except `%`, `"` and `=`.
-abbrev pub is_plain : ℕ → Bool
-is_plain o = (nat_le 33 o && nat_le o 126) && ((not (o == 37) && not (o == 34)) && not (o == 61))
-
--- Any other octet is printed as `%` and two hexadecimal digits.
-abbrev pub octet_text : ℕ → List ℕ
-octet_text o = if is_plain o then o ∷ [] else codes "%" ++ digits 16 false (o / 16) ++ digits 16 false (o % 16)
-
--- A name: its first 64 octets, and `..` if it has more.
+-- A name: its first 64 octets, as in a line of the log, and `..` if it has more.
 abbrev pub name_text : List ℕ → List ℕ
-name_text name = if nat_le (length name) 64 then flat_map octet_text name else flat_map octet_text (take 64 name) ++ codes ".."
+name_text name = if nat_le (length name) 64 then escaped None name else escaped None (take 64 name) ++ codes ".."
 
 abbrev pub table_text : Part → ℕ → List ℕ
 table_text part index = part_name part ++ index_text part index

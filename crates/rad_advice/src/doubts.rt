@@ -351,13 +351,6 @@ fn is_unused(config: &Config, lane: usize) -> bool
     !has_realm(config.realms(), lane) && !is_default(config.lane_of(None), lane)
 }
 
-/// Whether one of the realms leads to a lane.
-fn has_realm(realms: &[Realm], lane: usize) -> bool
-    ensures { result ≡ list_any (λ r. r.lane == lane) realms.now }
-{
-    realms.iter().any(|realm| usize::from(realm.lane()) == lane)
-}
-
 /// Whether a lane is the default.
 fn is_default(default: Option<u16>, lane: usize) -> bool
     ensures { result ≡ is_default_lane default lane }
@@ -424,13 +417,6 @@ fn is_example(secret: &[u8]) -> bool
     has_text(examples(), secret)
 }
 
-/// Whether one of these texts has these octets.
-fn has_text(texts: &[&str], octets: &[u8]) -> bool
-    ensures { result ≡ list_any (λ text. bytes_eq text.now octets.now) texts.now }
-{
-    texts.iter().any(|text| text.as_bytes() == octets)
-}
-
 /// Whether an octet of a secret is an ASCII control character.
 fn has_control(secret: &[u8]) -> bool
     ensures { result ≡ list_any controls secret.now }
@@ -454,4 +440,18 @@ fn realm_doubt(name: &[u8]) -> Option<Doubt>
     } else {
         None
     }
+}
+
+/// For the proof: whether one of the realms leads to a lane.
+fn has_realm(realms: &[Realm], lane: usize) -> bool
+    ensures { result ≡ list_any (λ r. r.lane == lane) realms.now }
+{
+    realms.iter().any(|realm| usize::from(realm.lane()) == lane)
+}
+
+/// For the proof: whether one of these texts has these octets.
+fn has_text(texts: &[&str], octets: &[u8]) -> bool
+    ensures { result ≡ list_any (λ text. bytes_eq text.now octets.now) texts.now }
+{
+    texts.iter().any(|text| text.as_bytes() == octets)
 }

@@ -8,9 +8,9 @@ ghost use Rattle.rad_realms.specs.Faults.{faults_in};
 ghost use Rattle.rad_advice.specs.Keys.{BeginsAtPlace};
 ghost use Rattle.rad_advice.specs.Faults.{data_at, data_text, text_at as told_text, value_text, spot_in, shown_text, entry_told, entry_of, entries_in, entries_in_text, sought as name_sought, key_sought, is_top, IsPlacedIn};
 
-use crate::escaped::Escaped;
 use crate::finding::{find_key, find_table};
 use crate::hints::hint_of;
+use crate::name_text::NameText;
 use crate::place::{AtText, Place, place_of};
 use crate::unread::member;
 use rad_realms::{ConfigFault, Key, Part, Spot, list_faults};
@@ -90,7 +90,7 @@ impl fmt::Display for Shown {
         match self {
             Shown::Nothing => Ok(()),
             Shown::Text(text) => {
-                let text = Escaped(text.as_str());
+                let text = NameText(text.as_str());
                 write!(f, ": {text}")
             }
             Shown::Number(number) => write!(f, ": {number}"),
@@ -266,20 +266,6 @@ fn find_value(document: &Table, spot: Spot) -> Option<&Value>
     value_of(table, spot.key.name())
 }
 
-/// Returns the item of this index, if the value is an array that has it.
-fn item_of(value: &Value, index: usize) -> Option<&Value>
-    ensures { option_map (λ v. view v.now) result ≡ at index (view value.now) }
-{
-    value.get(index)
-}
-
-/// Returns the value of a key, if the value is a table that has it.
-fn value_of<'t>(value: &'t Value, key: &str) -> Option<&'t Value>
-    ensures { option_map (λ v. view v.now) result ≡ get key.now (view value.now) }
-{
-    value.get(key)
-}
-
 /// Returns the text at the key of a fault, if it is one.
 fn text_at(document: &Table, fault: ConfigFault) -> Option<&str>
     ensures { option_map (λ s. s.now) result ≡ told_text fault (table_view document.now) }
@@ -398,4 +384,18 @@ fn has_name(document: &Table, spot: Spot, index: usize, name: &str) -> bool {
         Some(other) => other == name,
         None => false,
     }
+}
+
+/// For the proof: returns the item of this index, if the value is an array that has it.
+fn item_of(value: &Value, index: usize) -> Option<&Value>
+    ensures { option_map (λ v. view v.now) result ≡ at index (view value.now) }
+{
+    value.get(index)
+}
+
+/// For the proof: returns the value of a key, if the value is a table that has it.
+fn value_of<'t>(value: &'t Value, key: &str) -> Option<&'t Value>
+    ensures { option_map (λ v. view v.now) result ≡ get key.now (view value.now) }
+{
+    value.get(key)
 }

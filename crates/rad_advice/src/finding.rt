@@ -157,13 +157,6 @@ fn is_part(parts: &[String], place: usize, name: &str) -> bool
     }
 }
 
-/// Returns the part at this index.
-fn part_at(parts: &[String], place: usize) -> Option<&String>
-    ensures { option_copied result ≡ slice_get parts.now place }
-{
-    parts.get(place)
-}
-
 /// Looks for the key in the header or pair at the front, and returns the text from the key on, if it is there.
 fn find_in_expression<'t>(
     alloc: Global,
@@ -377,4 +370,11 @@ impl Brackets {
         self.key_next = self.depth == 2 && matches!(token, Token::Open | Token::Comma);
         !matches!(token, Token::Close) || self.depth > 0
     }
+}
+
+/// For the proof: returns the part at this index.
+fn part_at(parts: &[String], place: usize) -> Option<&String>
+    ensures { option_copied result ≡ slice_get parts.now place }
+{
+    parts.get(place)
 }

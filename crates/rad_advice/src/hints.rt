@@ -130,20 +130,6 @@ fn server_hint(text: &[u8]) -> &'static str
     }
 }
 
-/// Whether a text has this octet.
-fn has_octet(text: &[u8], octet: u8) -> bool
-    ensures { result ≡ contains_octet text.now octet }
-{
-    text.iter().any(|other| *other == octet)
-}
-
-/// Whether a text has an ASCII letter.
-fn has_letter(text: &[u8]) -> bool
-    ensures { result ≡ contains_letter text.now }
-{
-    text.iter().any(|octet| octet.is_ascii_alphabetic())
-}
-
 /// Whether a text has two colons or more.
 fn has_colons(text: &[u8]) -> bool
     ensures { result ≡ contains_colons text.now }
@@ -151,7 +137,21 @@ fn has_colons(text: &[u8]) -> bool
     count_colons(text) >= 2
 }
 
-/// Returns the number of colons in a text.
+/// For the proof: whether a text has this octet.
+fn has_octet(text: &[u8], octet: u8) -> bool
+    ensures { result ≡ contains_octet text.now octet }
+{
+    text.iter().any(|other| *other == octet)
+}
+
+/// For the proof: whether a text has an ASCII letter.
+fn has_letter(text: &[u8]) -> bool
+    ensures { result ≡ contains_letter text.now }
+{
+    text.iter().any(|octet| octet.is_ascii_alphabetic())
+}
+
+/// For the proof: returns the number of colons in a text.
 fn count_colons(text: &[u8]) -> usize
     ensures { result ≡ length (filter (λ o. o == 58) text.now) }
 {

@@ -91,19 +91,6 @@ pub fn advise_homes<'c>(
     Ok(advice)
 }
 
-/// Appends the fault of a home server, if there is one.
-fn add_advice<'c>(
-    advice: &mut Vec<HomeAdvice<'c>>,
-    one: Option<HomeAdvice<'c>>,
-) -> Result<(), AllocError>
-    ensures { OnOk result (map advice_told advice.new.items ≡ map advice_told advice.old.items ++ option_to_list (option_map advice_told one.entry)) }
-{
-    if let Some(one) = one {
-        advice.push(one)?;
-    }
-    Ok(())
-}
-
 /// Returns the fault of a home server's address, if there is one, for a proxy that listens on `listen`. `local` are
 /// the addresses of this machine, except those of 127.0.0.0/8.
 #[tactic(auto, unfolding(crate::specs::Homes::advice_of))]
@@ -148,20 +135,6 @@ fn is_local(local: &[[u8; 4]], address: [u8; 4]) -> bool
     address[0] == 127 || has_address(local, address)
 }
 
-/// Whether `address` is one of `local`.
-fn has_address(local: &[[u8; 4]], address: [u8; 4]) -> bool
-    ensures { result ≡ list_any (λ own. bytes_eq own address) local.now }
-{
-    local.iter().any(|own| is_same(*own, address))
-}
-
-/// Whether two addresses are equal.
-fn is_same(one: [u8; 4], other: [u8; 4]) -> bool
-    ensures { result ≡ bytes_eq one other }
-{
-    one == other
-}
-
 /// Returns the fault of an address, whatever the port.
 fn address_fault(address: [u8; 4]) -> Option<AddressFault>
     ensures { result ≡ fault_at address }
@@ -177,4 +150,31 @@ fn address_fault(address: [u8; 4]) -> Option<AddressFault>
     } else {
         None
     }
+}
+
+/// For the proof: appends the fault of a home server, if there is one.
+fn add_advice<'c>(
+    advice: &mut Vec<HomeAdvice<'c>>,
+    one: Option<HomeAdvice<'c>>,
+) -> Result<(), AllocError>
+    ensures { OnOk result (map advice_told advice.new.items ≡ map advice_told advice.old.items ++ option_to_list (option_map advice_told one.entry)) }
+{
+    if let Some(one) = one {
+        advice.push(one)?;
+    }
+    Ok(())
+}
+
+/// For the proof: whether `address` is one of `local`.
+fn has_address(local: &[[u8; 4]], address: [u8; 4]) -> bool
+    ensures { result ≡ list_any (λ own. bytes_eq own address) local.now }
+{
+    local.iter().any(|own| is_same(*own, address))
+}
+
+/// For the proof: whether two addresses are equal.
+fn is_same(one: [u8; 4], other: [u8; 4]) -> bool
+    ensures { result ≡ bytes_eq one other }
+{
+    one == other
 }

@@ -9,12 +9,12 @@
 #![tactic(auto)]
 
 mod doubts;
-mod escaped;
 mod faults;
 mod finding;
 mod hints;
 mod homes;
 mod keys;
+mod name_text;
 mod place;
 mod syntax;
 mod tokens;

@@ -6,9 +6,9 @@ ghost use Rattle.toml.specs.View.{view, items_view, table_view};
 ghost use Rattle.rad_realms.specs.Spot.{part_name as name_of_part};
 ghost use Rattle.rad_advice.specs.Keys.{unless_read, read_names, unread_in_table, unread_in_items, items_at, unread_in, unread_in_text, entry_listed, entry_found, BeginsAtPlace, StandsIn};
 
-use crate::escaped::Escaped;
 use crate::finding::find_key;
 use crate::keys::is_read;
+use crate::name_text::NameText;
 use crate::place::{AtText, Place, place_of};
 use rad_realms::Part;
 use std::alloc::{AllocError, Global};
@@ -74,7 +74,7 @@ impl fmt::Display for UnreadKey {
             part: self.part,
             index: self.index,
         };
-        let name = Escaped(self.name.as_str());
+        let name = NameText(self.name.as_str());
         let at = AtText(self.place);
         write!(f, "{table}{name}{at}")
     }
@@ -293,13 +293,6 @@ fn values_at<'t>(name: &str, document: &'t Table) -> &'t [Value]
     }
 }
 
-/// Finds the value of a key.
-pub(crate) fn member<'t>(name: &str, document: &'t Table) -> Option<&'t Value>
-    ensures { option_map (λ v. view v.now) result ≡ get_member name.now (table_view document.now) }
-{
-    document.get(name)
-}
-
 /// Returns the values of an array, or none for any other value.
 fn values_of(value: &Value) -> &[Value]
     ensures { items_view result.now ≡ unwrap_or (as_array (view value.now)) no_items }
@@ -354,4 +347,11 @@ fn add_unless_read<'t>(
     }
     found.push(Unread { part, index, name })?;
     Ok(())
+}
+
+/// For the proof: finds the value of a key.
+pub(crate) fn member<'t>(name: &str, document: &'t Table) -> Option<&'t Value>
+    ensures { option_map (λ v. view v.now) result ≡ get_member name.now (table_view document.now) }
+{
+    document.get(name)
 }

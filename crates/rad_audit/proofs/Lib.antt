@@ -1,4 +1,5 @@
 pub mod Entries
+pub mod Escapes
 pub mod Tabs
 pub mod Texts
 pub mod Values

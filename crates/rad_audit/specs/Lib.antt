@@ -1,8 +1,11 @@
 pub mod Cells
+pub mod Chained
 pub mod Facts
 pub mod Files
+pub mod Kept
 pub mod Lines
 pub mod Printed
+pub mod ReadFiles
 pub mod Rows
 pub mod Shown
 pub mod Statuses

@@ -2,6 +2,7 @@
 use Rattle.std.specs.Prelude.{ℕ, ◌^◌, ◌-◌, false, List, [], ◌++◌, codes}
 use Rattle.std.specs.Fmt.{decimal, digits, format_spec, padded_integral}
 use Rattle.rad_ledger.specs.Printed.{gap_text, reason_text, verdict_text}
+use Rattle.rad_ledger.specs.declared.reason.Reason.TheVariants.{WrongSum}
 use Rattle.rad_audit.specs.Shown.{word_text}
 use Rattle.rad_audit.specs.declared.printing.Place.{Place}
 use Rattle.rad_audit.specs.declared.printing.LaneName.{LaneName}
@@ -17,6 +18,9 @@ use Rattle.rad_audit.specs.declared.printing.BackLine.{BackLine}
 use Rattle.rad_audit.specs.declared.printing.FilesLine.{FilesLine}
 use Rattle.rad_audit.specs.declared.printing.MissingFiles.{MissingFiles}
 use Rattle.rad_audit.specs.declared.printing.BackSteps.{BackSteps}
+use Rattle.rad_audit.specs.declared.printing.HiddenLine.{HiddenLine}
+use Rattle.rad_audit.specs.declared.printing.BeforeLine.{BeforeLine}
+use Rattle.rad_audit.specs.declared.printing.SumLine.{SumLine}
 
 abbrev pub place_text : Place → List ℕ
 place_text place = word_text place.file.now ++ codes ":" ++ decimal place.line
@@ -66,3 +70,12 @@ files_text files = codes "files " ++ decimal files.0.first ++ codes " to " ++ de
 
 abbrev pub files_line : FilesLine → List ℕ
 files_line line = place_text line.place ++ codes ": run " ++ run_text line.run ++ codes " " ++ files_text line.files
+
+abbrev pub hidden_line : HiddenLine → List ℕ
+hidden_line line = codes "run " ++ run_text line.run ++ codes " hidden " ++ decimal line.count
+
+abbrev pub before_line : BeforeLine → List ℕ
+before_line line = codes "run " ++ run_text line.run ++ codes " before " ++ word_text line.name.now ++ codes " missing"
+
+abbrev pub sum_line : SumLine → List ℕ
+sum_line line = word_text line.word.now ++ codes ": " ++ reason_text WrongSum

@@ -20,7 +20,7 @@ status_of Output = 4
 abbrev pub status_at : Findings → ℕ
 status_at f =
     if f.wrong then 5 else (if f.contradicted then 9 else (if f.file then 8 else (if f.gap then 3
-    else (if f.part then 7 else (if f.nothing then 10 else (if f.unended then 6 else 0))))))
+    else (if f.part then 7 else (if f.nothing || f.run then 10 else (if f.unended then 6 else 0))))))
 
 -- Whether a response or a request is missing.
 abbrev pub is_missing : Verdict → Bool
@@ -47,9 +47,10 @@ is_contradicted Unaccounted = false
 is_contradicted Part = false
 is_contradicted Contradicted = true
 
--- Whether a lane is a part that nobody asked for: its run begins before it, or some of its lines were not judged.
+-- Whether a lane is a part that nobody asked for: its run begins before it, or has no sum, or some of its lines were not judged.
 abbrev pub is_unasked : Asked → LaneCounts → Bool
-is_unasked asked counts = (counts.late && not (asked.from || asked.partial)) || (not (counts.not_judged == 0) && not asked.partial)
+is_unasked asked counts =
+    (counts.late && not (asked.from || asked.partial)) || ((counts.bare || not (counts.not_judged == 0)) && not asked.partial)
 
 -- What is found with one lane more.
 abbrev pub found_in : Asked → LaneCounts → Findings → Findings
@@ -61,5 +62,6 @@ found_in asked counts f =
       gap = f.gap || is_missing counts.verdict;
       part = f.part || is_unasked asked counts;
       nothing = false;
+      run = f.run;
       unended = f.unended || is_open counts.verdict;
     }

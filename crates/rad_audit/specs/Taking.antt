@@ -10,7 +10,7 @@ use Rattle.rad_ledger.specs.declared.account.Account.{Account}
 use Rattle.rad_ledger.specs.declared.entry.Entry.{Entry}
 use Rattle.rad_ledger.specs.declared.left.Left.{Left}
 use Rattle.rad_ledger.specs.declared.reason.Reason.{Reason}
-use Rattle.rad_ledger.specs.declared.reason.Reason.TheVariants.{NotEntry, NoPacket, WrongSent, WrongReply, WrongResponse, SerialNotAbove, UnknownLane, RecordTwice, WrongWords}
+use Rattle.rad_ledger.specs.declared.reason.Reason.TheVariants.{NotEntry, NoPacket, WrongSent, WrongReply, WrongResponse, SerialNotAbove, UnknownLane, RecordTwice, WrongWords, WrongSum}
 use Rattle.rad_ledger.specs.declared.tally.Gap.{Gap}
 use Rattle.rad_ledger.specs.declared.tally.Tally.{Tally}
 use Rattle.rad_audit.specs.Facts.{number_at, value_at}
@@ -67,6 +67,7 @@ IsWrongEntry e home client old was UnknownLane = ⊥
 IsWrongEntry e home client old was RecordTwice = IsWrong e home client (Some old.next) (IsKnown was.numbers e.number) RecordTwice
 IsWrongEntry e home client old was WrongWords =
     ArePacketsRight e home client × IsInPlace e.serial (Some old.next) × (¬ IsKnown was.numbers e.number) × ¬ HasItsWords e.sent.now (words_of e)
+IsWrongEntry e home client old was WrongSum = ⊥
 
 abbrev pub Takes : Entry → Option (List ℕ) → Option (List ℕ) → Tally → Account → Taken → Tally → Account → Type 0
 Takes e home client old was (Wrong reason) new is = IsWrongEntry e home client old was reason × (new ≡ old) × IsUnchanged was is
@@ -90,6 +91,7 @@ IsWrongLeft left client was SerialNotAbove = ⊥
 IsWrongLeft left client was UnknownLane = ⊥
 IsWrongLeft left client was RecordTwice = IsWronglyLeft left client ⊤ (IsKnown was.numbers left.number) RecordTwice
 IsWrongLeft left client was WrongWords = IsRightlyLeft left client ⊤ (IsKnown was.numbers left.number) × ¬ HasItsWords left.request.now (words_of_left left)
+IsWrongLeft left client was WrongSum = ⊥
 
 abbrev pub Leaves : Left → Option (List ℕ) → Account → Option Reason → Account → Type 0
 Leaves left client was None is = IsCountedLeft left client was is

@@ -9,15 +9,18 @@ ghost use Rattle.rad_audit.specs.declared.faults.Fault.TheVariants.{Output};
 ghost use Rattle.rad_audit.specs.declared.printing.Findings.{Findings as TheFindings};
 
 use crate::faults::Fault;
+use crate::kept_sums::KeptSums;
 use crate::line_room::{LineRoom, Piece};
 use crate::printing::{
-    Asked, BackLine, FatesLine, FilesLine, Findings, GapLine, LaneLine, LaneName, MissingFiles,
-    Outputs, Place, RangesLine, Report, TornLine, WrongLine,
+    Asked, BackLine, BeforeLine, FatesLine, FilesLine, Findings, GapLine, HiddenLine, LaneLine,
+    LaneName, MissingFiles, NO_FINDINGS, Outputs, Place, RangesLine, Report, SumLine, TornLine,
+    WrongLine,
 };
-use crate::runs::{Lane, Runs};
+use crate::read_file::FileSoFar;
+use crate::runs::{Lane, Run, Runs};
 use crate::taking::{Taken, judge_stray, judge_stray_left, take_entry, take_left};
 use ledger_lines::{
-    Begin, End, LaneCount, Line, LineFault, MOST_LINE_OCTETS, Room, moment_of, read_line,
+    Begin, End, Hidden, LaneCount, Line, LineFault, MOST_LINE_OCTETS, Room, moment_of, read_line,
 };
 use libc::{STDERR_FILENO, isatty};
 use rad_auth::Secret;
@@ -34,7 +37,8 @@ const READ_OCTETS: usize = 262_144;
 /// After so many lines of a file standard error tells how far the audit is, where that is a terminal.
 const LINES_APART: u64 = 65_536;
 
-/// Audits the ledgers in these files, in this order, and prints what it finds. Returns the status.
+/// Audits the ledgers in these files, in this order, and prints what it finds, also of sums that somebody kept. Returns the
+/// status.
 ///
 /// # Errors
 ///
@@ -45,6 +49,7 @@ pub fn audit_files<R: Runtime, W: Write>(
     config: &Config,
     asked: Asked,
     files: &[&str],
+    sums: KeptSums<'_>,
     outputs: Outputs<'_, W>,
 ) -> Result<u8, Fault>
 where
@@ -55,16 +60,11 @@ where
         outputs,
         asked,
         findings: Findings {
-            wrong: false,
-            contradicted: false,
-            file: false,
-            gap: false,
-            part: false,
             nothing: true,
-            unended: false,
+            ..NO_FINDINGS
         },
     };
-    let Ok(mut audit) = Audit::new(alloc, config, report) else {
+    let Ok(mut audit) = Audit::new(alloc, config, sums, report) else {
         return Err(Fault::Memory);
     };
     audit.read_files(rt, files)
@@ -86,7 +86,10 @@ struct Audit<'a, W> {
     room: Room,
     line: LineRoom,
     held: Held,
+    /// The file that is read.
+    file: FileSoFar,
     runs: Runs,
+    sums: KeptSums<'a>,
     report: Report<'a, W>,
 }
 
@@ -94,6 +97,7 @@ impl<'a, W: Write> Audit<'a, W> {
     fn new(
         alloc: Global,
         config: &'a Config,
+        sums: KeptSums<'a>,
         report: Report<'a, W>,
     ) -> Result<Audit<'a, W>, AllocError> {
         let octets = Vec::with_capacity(alloc, MOST_LINE_OCTETS)?;
@@ -104,7 +108,9 @@ impl<'a, W: Write> Audit<'a, W> {
             room: Room::new(alloc)?,
             line,
             held: Held { octets, line: None },
+            file: FileSoFar::new(false),
             runs: Runs::new(alloc),
+            sums,
             report,
         })
     }
@@ -163,12 +169,13 @@ impl<'a, W: Write> Audit<'a, W> {
         reader: &mut R,
         is_watched: bool,
     ) -> Result<(), Fault> {
+        self.file = FileSoFar::new(self.report.asked.all);
         for line in 1..u64::MAX {
             let place = Place { file, line };
             if is_watched && line.is_multiple_of(LINES_APART) {
                 tell_place(rt, place);
             }
-            let piece = match self.line.read(reader) {
+            let piece = match self.line.read(reader, &mut self.file) {
                 Ok(piece) => piece,
                 Err(error) => return Err(Fault::of_file(self.alloc, file, &error)),
             };
@@ -176,9 +183,12 @@ impl<'a, W: Write> Audit<'a, W> {
             match piece {
                 Piece::Whole => self.take(place)?,
                 Piece::TooLong => self.report.wrong(not_an_entry(place))?,
-                Piece::Unended => return self.report.torn(TornLine { place }),
-                Piece::End => return Ok(()),
+                Piece::Unended => self.report.torn(TornLine { place })?,
+                Piece::End => break,
             }
+        }
+        if let Some(file) = self.file.end() {
+            self.runs.keep_file(file);
         }
         Ok(())
     }
@@ -210,12 +220,28 @@ impl<'a, W: Write> Audit<'a, W> {
     #[tactic(auto, using(crate::proofs::Entries::serial_of_line))]
     fn take_read(&mut self, place: Place<'_>) -> Result<bool, Fault> {
         let (alloc, config) = (self.alloc, self.config);
-        let (runs, report) = (&mut self.runs, &mut self.report);
-        let taken = match read_line(alloc, self.line.as_slice(), &mut self.room) {
-            Ok(Line::Entry(entry)) => count_entry(alloc, config, runs, report, place, &entry),
-            Ok(Line::Left(left)) => count_left(config, runs, report, place, &left),
-            Ok(Line::Begin(begin)) => take_begin(alloc, runs, report, place, &begin),
-            Ok(Line::End(end)) => take_end(runs, report, place, &end),
+        let (runs, sums, report) = (&mut self.runs, &mut self.sums, &mut self.report);
+        let line = self.line.as_slice();
+        let taken = match read_line(alloc, line, &mut self.room) {
+            Ok(Line::Entry(entry)) => {
+                pass_line(runs, sums, entry.run, line);
+                count_entry(alloc, config, runs, report, place, &entry)
+            }
+            Ok(Line::Left(left)) => {
+                pass_line(runs, sums, left.run, line);
+                count_left(config, runs, report, place, &left)
+            }
+            Ok(Line::Begin(begin)) => {
+                self.file.begin(begin.run, begin.file);
+                begin_file(alloc, runs, report, place, &begin)?;
+                pass_begin(runs, sums, report, place, &begin, line)
+            }
+            Ok(Line::End(end)) => {
+                check_end(runs, report, place, &end)?;
+                pass_line(runs, sums, end.run, line);
+                take_end(runs, report, place, &end)
+            }
+            Ok(Line::Hidden(hidden)) => pass_hidden(runs, sums, report, place, &hidden),
             Err(LineFault::NotALine) => return Ok(false),
             Err(LineFault::OutOfMemory) => return Err(Fault::Memory),
         };
@@ -240,15 +266,17 @@ impl<'a, W: Write> Audit<'a, W> {
         Ok(())
     }
 
-    /// Prints what each lane of each run has, and returns the status.
+    /// Prints what each lane of each run has, and which sums were not found, and returns the status.
     fn end(&mut self) -> Result<u8, Fault>
         ensures status { IfOk result (λ status. (found : TheFindings) × (status ≡ status_at found)) }
         ensures fault { IfErr result (λ fault. fault ≡ Output) }
     {
         for run in self.runs.as_slice() {
-            let late = run.files.begin_late();
-            for lane in run.lanes.as_slice() {
-                tell_lane(&mut self.report, run.run, late, lane)?;
+            tell_run(&mut self.report, &self.runs, run)?;
+        }
+        for kept in self.sums.as_slice() {
+            if !kept.is_found {
+                self.report.sum(SumLine { word: kept.word })?;
             }
         }
         Ok(self.report.findings.status())
@@ -265,8 +293,8 @@ fn clear_place<R: Runtime>(rt: &R) {
     let _ = eprint!(rt; "\u{1b}[K");
 }
 
-/// A file begins.
-fn take_begin<W: Write>(
+/// A file begins. Tells which files of its run are missing before it, if any are.
+fn begin_file<W: Write>(
     alloc: Global,
     runs: &mut Runs,
     report: &mut Report<'_, W>,
@@ -281,6 +309,77 @@ fn take_begin<W: Write>(
         }
         Ok(None) => Ok(()),
         Err(_) => Err(Fault::Memory),
+    }
+}
+
+/// Adds the first line of a file to the chain of its run. Tells if its sum is not that of the lines before it.
+fn pass_begin<W: Write>(
+    runs: &mut Runs,
+    sums: &mut KeptSums<'_>,
+    report: &mut Report<'_, W>,
+    place: Place<'_>,
+    begin: &Begin<'_>,
+    line: &[u8],
+) -> Result<(), Fault> {
+    let Some(run) = runs.run(begin.run) else {
+        return Ok(());
+    };
+    let is_right = run.chain.begin(begin.file, begin.sum, line);
+    if let Some(sum) = begin.sum {
+        sums.see(begin.run, begin.file, sum);
+    }
+    sums.see_run(run);
+    tell_sum(report, place, is_right)
+}
+
+/// Tells if a line's sum is not right.
+fn tell_sum<W: Write>(
+    report: &mut Report<'_, W>,
+    place: Place<'_>,
+    is_right: bool,
+) -> Result<(), Fault> {
+    if is_right {
+        return Ok(());
+    }
+    let reason = Reason::WrongSum;
+    report.wrong(WrongLine { place, reason })
+}
+
+/// Adds a line to the chain of its run, if that is known.
+fn pass_line(runs: &mut Runs, sums: &mut KeptSums<'_>, run: u64, line: &[u8]) {
+    if let Some(run) = runs.run(run) {
+        run.chain.pass(line);
+        sums.see_run(run);
+    }
+}
+
+/// Adds a line that is left out to the chain of the run of the line before it. Tells if there is no such run.
+fn pass_hidden<W: Write>(
+    runs: &mut Runs,
+    sums: &mut KeptSums<'_>,
+    report: &mut Report<'_, W>,
+    place: Place<'_>,
+    hidden: &Hidden,
+) -> Result<(), Fault> {
+    let Some(run) = runs.last() else {
+        let reason = Reason::UnknownLane;
+        return report.wrong(WrongLine { place, reason });
+    };
+    run.chain.pass_hidden(hidden.sum);
+    sums.see_run(run);
+    Ok(())
+}
+
+/// Tells if the sum of a line that ends a run is not that of the lines before it.
+fn check_end<W: Write>(
+    runs: &mut Runs,
+    report: &mut Report<'_, W>,
+    place: Place<'_>,
+    end: &End<'_>,
+) -> Result<(), Fault> {
+    match runs.run(end.run) {
+        Some(run) => tell_sum(report, place, run.chain.is_right_end(end.sum)),
+        None => Ok(()),
     }
 }
 
@@ -375,24 +474,36 @@ fn count_left<W: Write>(
     }
 }
 
-/// Prints what a lane of a run has.
-fn tell_lane<W: Write>(
-    report: &mut Report<'_, W>,
-    run: u64,
-    begun_late: bool,
-    lane: &Lane,
-) -> Result<(), Fault>
+/// Prints what each lane of a run has, how many of its lines are left out, if any are, and if a file that it names was not
+/// read.
+fn tell_run<W: Write>(report: &mut Report<'_, W>, runs: &Runs, run: &Run) -> Result<(), Fault>
     ensures { IfErr result (λ fault. fault ≡ Output) }
 {
-    report.lane(LaneLine::of(run, begun_late, lane))?;
-    if let Some(line) = FatesLine::of(run, lane) {
+    for lane in run.lanes.as_slice() {
+        tell_lane(report, run, lane)?;
+    }
+    if let Some(line) = HiddenLine::of(run) {
+        report.hidden(line)?;
+    }
+    match &run.before {
+        Some(file) if !runs.has(file) => report.before(BeforeLine::of(run.run, file)),
+        _ => Ok(()),
+    }
+}
+
+/// Prints what a lane of a run has.
+fn tell_lane<W: Write>(report: &mut Report<'_, W>, run: &Run, lane: &Lane) -> Result<(), Fault>
+    ensures { IfErr result (λ fault. fault ≡ Output) }
+{
+    report.lane(LaneLine::of(run, lane))?;
+    if let Some(line) = FatesLine::of(run.run, lane) {
         report.fates(line)?;
     }
     if !lane.account.is_exact() {
-        let name = LaneName::of(run, lane);
+        let name = LaneName::of(run.run, lane);
         report.ranges(RangesLine { name })?;
     }
-    if let Some(line) = BackLine::of(run, lane) {
+    if let Some(line) = BackLine::of(run.run, lane) {
         report.back(line)?;
     }
     Ok(())

@@ -5,7 +5,8 @@ ghost use Rattle.std.specs.Fmt.{WritesOnOk};
 ghost use Rattle.std.specs.List.{flat_map, list_all};
 ghost use Rattle.rad_audit.specs.Cells.{character_cell, is_escaped as the_is_escaped, is_plain as the_is_plain, octet_cell, text_cell};
 
-use crate::shown::{EscapedOctet, EscapedOctets};
+use crate::shown::write_escaped;
+use rad_log::Escaped;
 use rad_realms::AddressText;
 use std::fmt;
 
@@ -120,9 +121,7 @@ impl fmt::Display for Character {
         if !is_escaped(character) {
             return write!(f, "{character}");
         }
-        let mut room = [0; 4];
-        let octets = EscapedOctets(character.encode_utf8(&mut room).as_bytes());
-        write!(f, "{octets}")
+        write_escaped(f, character)
     }
 }
 
@@ -138,8 +137,11 @@ impl fmt::Display for Octet {
             let plain = char::from(octet);
             return write!(f, "{plain}");
         }
-        let octet = EscapedOctet(octet);
-        write!(f, "{octet}")
+        let octets = Escaped {
+            octets: &[octet],
+            also: Some(b'\\'),
+        };
+        write!(f, "{octets}")
     }
 }
 

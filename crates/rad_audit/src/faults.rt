@@ -9,7 +9,7 @@ use thiserror::Error as FaultError;
 /// Why the program ends early. Its `Display` is the line for standard error.
 #[derive(Debug, Drop, FaultError)]
 pub enum Fault {
-    #[error("usage: rad_audit [--rows] [--from] [--partial] CONFIG FILE..")]
+    #[error("usage: rad_audit [--rows] [--from] [--partial] [--all] [--sum RUN:FILE:SUM].. CONFIG FILE..")]
     Usage,
     /// The file can't be read, or is a configuration that is too long.
     #[error("file: {0}")]

@@ -12,7 +12,7 @@ pub struct RunFiles {
 }
 
 impl RunFiles {
-    ghost use Rattle.std.specs.Prelude.{◌≡◌, ◌↔◌, ◌≢◌, ◌+◌, ◌-◌, ◌^◌, IsTrue, max, min};
+    ghost use Rattle.std.specs.Prelude.{◌≡◌, ◌+◌, ◌-◌, ◌^◌, ◌==◌, not, max, min};
     ghost use Rattle.rad_audit.specs.Files.{LacksFiles};
 
     /// Returns those of a run whose first file that is read has this number.
@@ -43,7 +43,7 @@ impl RunFiles {
 
     /// Whether the run has a file before the first one that was read.
     pub fn begin_late(&self) -> bool
-        ensures { IsTrue result ↔ (self.now.first ≢ 0) }
+        ensures { result ≡ not (self.now.first == 0) }
     {
         self.first != 0
     }

@@ -4,11 +4,15 @@
 
 mod auditing;
 mod cells;
+mod chains;
 mod facts;
 mod faults;
 mod files;
+mod kept_sums;
 mod line_room;
+mod named_file;
 mod printing;
+mod read_file;
 mod rows;
 mod runs;
 mod shown;
@@ -25,7 +29,7 @@ ghost use Rattle.rad_audit.specs.declared.printing.Findings.{Findings as TheFind
 
 use auditing::audit_files;
 use faults::Fault;
-use printing::{Asked, Findings, Outputs};
+use printing::{NO_FINDINGS, Outputs};
 use rad_console::{read_at_most, read_configuration};
 use rad_realms::Config;
 use std::alloc::{AllocGlobal, Global};
@@ -70,7 +74,7 @@ where
     ensures { IfOk result (λ status. (found : TheFindings) × (status ≡ status_at found)) }
 {
     match read_words(alloc, arguments)? {
-        Wanted::Audit(words) => audit_words(rt, alloc, &words),
+        Wanted::Audit(words) => audit_words(rt, alloc, words),
         Wanted::Text(text) => print_text(rt, &text),
     }
 }
@@ -80,79 +84,42 @@ fn print_text<R: Runtime>(rt: &R, text: &clap::Error) -> Result<u8, Fault>
     ensures status { IfOk result (λ status. (found : TheFindings) × (status ≡ status_at found)) }
     ensures none { IfOk result (λ status. status ≡ 0) }
 {
-    let none = Findings {
-        wrong: false,
-        contradicted: false,
-        file: false,
-        gap: false,
-        part: false,
-        nothing: false,
-        unended: false,
-    };
     match print!(rt; "{text}") {
-        Ok(()) => Ok(none.status()),
+        Ok(()) => Ok(NO_FINDINGS.status()),
         Err(_) => Err(Fault::Output),
     }
 }
 
-/// Audits the files that these words name, and returns the status.
-fn audit_words<R: Runtime>(rt: &R, alloc: Global, words: &Words<'_>) -> Result<u8, Fault>
+/// Audits the files that these words name, and returns the status. It prints what it finds on standard output. If rows are
+/// asked for, it prints them there, and what it finds on standard error.
+fn audit_words<R: Runtime>(rt: &R, alloc: Global, words: Words<'_>) -> Result<u8, Fault>
 where
     R::File: Drop,
     ensures { IfOk result (λ status. (found : TheFindings) × (status ≡ status_at found)) }
 {
-    let config = load(rt, alloc, words.config)?;
-    let files = words.files.as_slice();
-    if words.rows {
-        print_rows(rt, alloc, &config, words.asked, files)
+    let Words {
+        rows,
+        asked,
+        sums,
+        config,
+        files,
+    } = words;
+    let config = load(rt, alloc, config)?;
+    let standard = Stream::Output(io::writer(rt));
+    let (lines, mut rows) = if rows {
+        (Stream::Error, Some(buffered(alloc, standard)?))
     } else {
-        print_audit(rt, alloc, &config, words.asked, files)
-    }
-}
-
-/// Audits files against a configuration, prints what it finds on standard output, and returns the status.
-fn print_audit<R: Runtime>(
-    rt: &R,
-    alloc: Global,
-    config: &Config,
-    asked: Asked,
-    files: &[&str],
-) -> Result<u8, Fault>
-where
-    R::File: Drop,
-    ensures { IfOk result (λ status. (found : TheFindings) × (status ≡ status_at found)) }
-{
-    let mut output = buffered(alloc, Stream::Output(io::writer(rt)))?;
-    let outputs = Outputs {
-        lines: &mut output,
-        rows: None,
+        (standard, None)
     };
-    let audited = audit_files(rt, alloc, config, asked, files, outputs);
-    flush(&mut output)?;
-    audited
-}
-
-/// Audits files against a configuration, prints a row for each record that is right on standard output and what it finds
-/// on standard error, and returns the status.
-fn print_rows<R: Runtime>(
-    rt: &R,
-    alloc: Global,
-    config: &Config,
-    asked: Asked,
-    files: &[&str],
-) -> Result<u8, Fault>
-where
-    R::File: Drop,
-    ensures { IfOk result (λ status. (found : TheFindings) × (status ≡ status_at found)) }
-{
-    let mut rows = buffered(alloc, Stream::Output(io::writer(rt)))?;
-    let mut lines = buffered(alloc, Stream::Error)?;
+    let mut lines = buffered(alloc, lines)?;
     let outputs = Outputs {
         lines: &mut lines,
-        rows: Some(&mut rows),
+        rows: rows.as_mut(),
     };
-    let audited = audit_files(rt, alloc, config, asked, files, outputs);
-    flush(&mut rows)?;
+    let audited = audit_files(rt, alloc, &config, asked, files.as_slice(), sums, outputs);
+    if let Some(rows) = &mut rows {
+        flush(rows)?;
+    }
     flush(&mut lines)?;
     audited
 }

@@ -5,8 +5,9 @@ ghost use Rattle.rad_audit.specs.declared.faults.Fault.TheVariants.{Output};
 ghost use Rattle.rad_audit.specs.Statuses.{is_contradicted as the_is_contradicted, is_missing as the_is_missing, is_open as the_is_open, is_unasked as the_is_unasked};
 
 use crate::faults::Fault;
+use crate::named_file::NamedFile;
 use crate::rows::{Row, RunText};
-use crate::runs::Lane;
+use crate::runs::{Lane, Run};
 use crate::shown::Shown;
 use rad_ledger::{Entry, Gap, Left, Reason, Verdict, lane_verdict};
 use std::fmt;
@@ -109,6 +110,31 @@ pub struct FilesLine<'a> {
 #[derive(Clone, Copy)]
 pub struct MissingFiles(pub Gap);
 
+/// The line of a run of which lines are left out.
+#[derive(Clone, Copy)]
+pub struct HiddenLine {
+    /// The name of the run.
+    pub run: u64,
+    /// How many there are.
+    pub count: u64,
+}
+
+/// The line of a run that names a file of another run which was not read.
+#[derive(Clone, Copy)]
+pub struct BeforeLine<'a> {
+    /// The name of the run.
+    pub run: u64,
+    /// That of the file.
+    pub name: &'a str,
+}
+
+/// The line of a sum that somebody kept and that was not found.
+#[derive(Clone, Copy)]
+pub struct SumLine<'a> {
+    /// The word that names it.
+    pub word: &'a str,
+}
+
 /// What a lane of a run has.
 #[derive(Clone, Copy)]
 pub struct LaneCounts {
@@ -116,6 +142,8 @@ pub struct LaneCounts {
     pub first: u64,
     /// Whether the run begins before that, or with a file before the first one that was read.
     pub late: bool,
+    /// Whether a file of the run begins without a sum.
+    pub bare: bool,
     /// How many entries are right.
     pub entries: u64,
     /// How many of these, and of the lines of requests that were left, were not judged, or not all of them.
@@ -128,8 +156,10 @@ pub struct LaneCounts {
 pub struct Asked {
     /// Runs that begin before what is there.
     pub from: bool,
-    /// These, and what is judged without the secret of a home server or of a client.
+    /// These, and what is judged without a sum, the secret of a home server or of a client, or a line that is left out.
     pub partial: bool,
+    /// All runs before the last one, which are a fault if they are missing.
+    pub all: bool,
 }
 
 /// What was found so far.
@@ -147,9 +177,23 @@ pub struct Findings {
     pub part: bool,
     /// Whether no lane was found.
     pub nothing: bool,
+    /// Whether a run is missing that another one names, if all are asked for.
+    pub run: bool,
     /// Whether a lane is open.
     pub unended: bool,
 }
+
+/// Findings that are none.
+pub const NO_FINDINGS: Findings = Findings {
+    wrong: false,
+    contradicted: false,
+    file: false,
+    gap: false,
+    part: false,
+    nothing: false,
+    run: false,
+    unended: false,
+};
 
 impl Findings {
     ghost use Rattle.std.specs.Prelude.{◌≡◌};
@@ -166,6 +210,7 @@ impl Findings {
             gap: self.gap || is_missing(counts.verdict),
             part: self.part || is_unasked(asked, counts),
             nothing: false,
+            run: self.run,
             unended: self.unended || is_open(counts.verdict),
         }
     }
@@ -184,7 +229,7 @@ impl Findings {
             3
         } else if self.part {
             7
-        } else if self.nothing {
+        } else if self.nothing || self.run {
             10
         } else if self.unended {
             6
@@ -216,21 +261,24 @@ impl<'a> LaneLine<'a> {
     ghost use Rattle.rad_ledger.specs.Counting.{Counts};
     ghost use Rattle.rad_ledger.specs.Numbers.{Keeps};
 
-    /// Returns the line of this lane of a run, which may have begun with a file that was not read.
-    pub fn of(run: u64, begun_late: bool, lane: &'a Lane) -> LaneLine<'a>
-        ensures name { (result.name.run ≡ run) × (result.name.number ≡ lane.now.number) }
+    /// Returns the line of this lane of a run.
+    pub fn of(run: &Run, lane: &'a Lane) -> LaneLine<'a>
+        ensures name { (result.name.run ≡ run.now.run) × (result.name.number ≡ lane.now.number) }
         ensures home { result.name.home.now ≡ string_bytes lane.now.home.0 }
         ensures counts { (result.counts.first ≡ lane.now.tally.first) × (result.counts.entries ≡ lane.now.tally.entries) × (result.counts.not_judged ≡ lane.now.not_judged) }
-        ensures late { result.counts.late ≡ (begun_late || not (lane.now.tally.first == 0)) }
-        ensures verdict { (serials : List ℕ) (numbers : List ℕ) → Counts lane.now.tally serials → Keeps lane.now.account.numbers numbers → JudgesLane lane.now.tally lane.now.account lane.now.ending (IsTrue (result.counts.late || not (lane.now.not_judged == 0))) serials numbers result.counts.verdict }
+        ensures late { result.counts.late ≡ (not (run.now.files.first == 0) || not (lane.now.tally.first == 0)) }
+        ensures bare { result.counts.bare ≡ run.now.chain.bare }
+        ensures verdict { (serials : List ℕ) (numbers : List ℕ) → Counts lane.now.tally serials → Keeps lane.now.account.numbers numbers → JudgesLane lane.now.tally lane.now.account lane.now.ending (IsTrue (result.counts.late || (result.counts.bare || not (lane.now.not_judged == 0)))) serials numbers result.counts.verdict }
     {
-        let late = begun_late || lane.tally.first() != 0;
-        let part = late || lane.not_judged != 0;
+        let late = run.files.begin_late() || lane.tally.first() != 0;
+        let bare = run.chain.is_bare();
+        let part = late || (bare || lane.not_judged != 0);
         LaneLine {
-            name: LaneName::of(run, lane),
+            name: LaneName::of(run.run, lane),
             counts: LaneCounts {
                 first: lane.tally.first(),
                 late,
+                bare,
                 entries: lane.tally.entries(),
                 not_judged: lane.not_judged,
                 verdict: lane_verdict(&lane.tally, &lane.account, &lane.ending, part),
@@ -276,6 +324,38 @@ impl<'a> BackLine<'a> {
     }
 }
 
+impl HiddenLine {
+    ghost use Rattle.std.specs.Prelude.{◌≡◌, ◌≢◌, MatchOption};
+
+    /// Returns the line of a run, if lines of it are left out.
+    pub fn of(run: &Run) -> Option<HiddenLine>
+        ensures { MatchOption result (run.now.chain.hidden ≡ 0) (λ line. (line.run ≡ run.now.run) × (line.count ≡ run.now.chain.hidden) × (line.count ≢ 0)) }
+    {
+        let count = run.chain.hidden();
+        if count == 0 {
+            return None;
+        }
+        Some(HiddenLine {
+            run: run.run,
+            count,
+        })
+    }
+}
+
+impl<'a> BeforeLine<'a> {
+    ghost use Rattle.std.specs.Prelude.{◌≡◌, string_bytes};
+
+    /// Returns the line of a run that names this file.
+    pub fn of(run: u64, file: &'a NamedFile) -> BeforeLine<'a>
+        ensures { (result.run ≡ run) × (result.name.now ≡ string_bytes file.now.name.0) }
+    {
+        BeforeLine {
+            run,
+            name: file.name(),
+        }
+    }
+}
+
 /// Where lines are printed, and rows, if they are.
 #[derive(Drop)]
 pub struct Outputs<'a, W> {
@@ -292,7 +372,7 @@ pub struct Report<'a, W> {
 }
 
 impl<W: Write> Report<'_, W> {
-    ghost use Rattle.std.specs.Prelude.{true};
+    ghost use Rattle.std.specs.Prelude.{true, not, ◌||◌};
     ghost use Rattle.rad_audit.specs.Statuses.{found_in};
 
     /// Tells of a line that is wrong.
@@ -387,6 +467,36 @@ impl<W: Write> Report<'_, W> {
         written(writeln!(self.outputs.lines, "{line}"))
     }
 
+    /// Tells how many lines of a run are left out.
+    pub fn hidden(&mut self, line: HiddenLine) -> Result<(), Fault>
+        ensures findings { self.new.findings ≡ record self.old.findings { part = self.old.findings.part || not self.old.asked.partial } }
+        ensures fault { IfErr result (λ fault. fault ≡ Output) }
+    {
+        self.findings.part = self.findings.part || !self.asked.partial;
+        written(writeln!(self.outputs.lines, "{line}"))
+    }
+
+    /// Tells of a file of another run that a run names and that was not read.
+    pub fn before(&mut self, line: BeforeLine<'_>) -> Result<(), Fault>
+        ensures findings { self.new.findings ≡ record self.old.findings { run = self.old.findings.run || self.old.asked.all } }
+        ensures fault { IfErr result (λ fault. fault ≡ Output) }
+    {
+        self.findings.run = self.findings.run || self.asked.all;
+        written(writeln!(self.outputs.lines, "{line}"))
+    }
+
+    /// Tells of a sum that somebody kept and that was not found.
+    pub fn sum(&mut self, line: SumLine<'_>) -> Result<(), Fault>
+        ensures findings { self.new.findings ≡ record self.old.findings { wrong = true } }
+        ensures fault { IfErr result (λ fault. fault ≡ Output) }
+    {
+        self.findings = Findings {
+            wrong: true,
+            ..self.findings
+        };
+        written(writeln!(self.outputs.lines, "{line}"))
+    }
+
     /// Tells what a lane of a run has.
     pub fn lane(&mut self, line: LaneLine<'_>) -> Result<(), Fault>
         ensures findings { self.new.findings ≡ found_in self.old.asked line.entry.counts self.old.findings }
@@ -422,7 +532,8 @@ fn is_contradicted(verdict: Verdict) -> bool
 fn is_unasked(asked: Asked, counts: LaneCounts) -> bool
     ensures { result ≡ the_is_unasked asked counts }
 {
-    (counts.late && !(asked.from || asked.partial)) || (counts.not_judged != 0 && !asked.partial)
+    (counts.late && !(asked.from || asked.partial))
+        || ((counts.bare || counts.not_judged != 0) && !asked.partial)
 }
 
 /// Returns the fault of a line that can't be printed.
@@ -618,5 +729,44 @@ impl fmt::Display for LaneCounts {
         let verdict = self.verdict;
         write!(f, "from {first} entries {entries} ")?;
         write!(f, "not judged {not_judged} {verdict}")
+    }
+}
+
+impl fmt::Display for HiddenLine {
+    ghost use Rattle.std.specs.Prelude.{Some};
+    ghost use Rattle.rad_audit.specs.Printed.{hidden_line};
+
+    ghost output = { λ line. Some (hidden_line line) };
+
+    fn fmt<W: fmt::Write>(&self, f: &mut fmt::Formatter<W>) -> fmt::Result {
+        let run = self.run;
+        let count = self.count;
+        write!(f, "run {run:016x} hidden {count}")
+    }
+}
+
+impl fmt::Display for BeforeLine<'_> {
+    ghost use Rattle.std.specs.Prelude.{Some};
+    ghost use Rattle.rad_audit.specs.Printed.{before_line};
+
+    ghost output = { λ line. Some (before_line line) };
+
+    fn fmt<W: fmt::Write>(&self, f: &mut fmt::Formatter<W>) -> fmt::Result {
+        let run = self.run;
+        let name = Shown(self.name);
+        write!(f, "run {run:016x} before {name} missing")
+    }
+}
+
+impl fmt::Display for SumLine<'_> {
+    ghost use Rattle.std.specs.Prelude.{Some};
+    ghost use Rattle.rad_audit.specs.Printed.{sum_line};
+
+    ghost output = { λ line. Some (sum_line line) };
+
+    fn fmt<W: fmt::Write>(&self, f: &mut fmt::Formatter<W>) -> fmt::Result {
+        let word = Shown(self.word);
+        let reason = Reason::WrongSum;
+        write!(f, "{word}: {reason}")
     }
 }

@@ -1,6 +1,9 @@
 //! What is known of each run and its lanes.
 
+use crate::chains::RunChain;
 use crate::files::RunFiles;
+use crate::named_file::NamedFile;
+use crate::read_file::{ReadFile, newer_of};
 use crate::shown::Word;
 use crate::times::Times;
 use ledger_lines::{Begin, LaneStart};
@@ -34,7 +37,12 @@ pub struct Run {
     pub run: u64,
     /// Its files that were read.
     pub files: RunFiles,
+    /// The one of them that has the greatest number.
+    pub newest: Option<ReadFile>,
+    /// The file of another run that its first line names.
+    pub before: Option<NamedFile>,
     pub lanes: Vec<Lane>,
+    pub chain: RunChain,
 }
 
 /// The runs, in the order in which the files name them.
@@ -89,15 +97,28 @@ impl Runs {
         self.name(run)?;
         let mut lanes = Vec::with_capacity(alloc, begin.lanes.len())?;
         match add_lanes(alloc, &mut lanes, begin) {
-            Ok(()) => self.push(run, begin.file, lanes),
+            Ok(()) => self.push(alloc, begin, lanes),
             Err(refused) => Err(refused),
         }
     }
 
-    /// Adds a run that is known from the file of this number on.
-    fn push(&mut self, run: u64, file: u64, lanes: Vec<Lane>) -> Result<(), AllocError> {
-        let files = RunFiles::from(file);
-        push(&mut self.runs, Run { run, files, lanes })
+    /// Adds a run that is known from this file on.
+    fn push(
+        &mut self,
+        alloc: Global,
+        begin: &Begin<'_>,
+        lanes: Vec<Lane>,
+    ) -> Result<(), AllocError> {
+        let before = before_of(alloc, begin)?;
+        let run = Run {
+            run: begin.run,
+            files: RunFiles::from(begin.file),
+            newest: None,
+            before,
+            lanes,
+            chain: RunChain::new(),
+        };
+        push(&mut self.runs, run)
     }
 
     /// Keeps the place at which a run comes next.
@@ -116,12 +137,52 @@ impl Runs {
         self.places.get(&run).copied()
     }
 
+    /// Returns the run of this name, if there is one.
+    pub fn run(&mut self, run: u64) -> Option<&mut Run> {
+        self.last = self.place_of(run)?;
+        self.runs.get_mut(self.last)
+    }
+
+    /// Keeps a file that was read to its end, if it is of a run.
+    pub fn keep_file(&mut self, file: ReadFile) {
+        let Some(run) = self.run(file.run) else {
+            return;
+        };
+        let newest = newer_of(run.newest, file);
+        run.newest = Some(newest);
+    }
+
+    /// Whether a file that a run names was read.
+    pub fn has(&self, named: &NamedFile) -> bool {
+        let Some(run) = named.run() else {
+            return false;
+        };
+        let Some(place) = self.places.get(&run) else {
+            return false;
+        };
+        match self.runs.get(*place) {
+            Some(run) => run.newest.is_some_and(|newest| named.is(&newest)),
+            None => false,
+        }
+    }
+
+    /// Returns the run that was last asked for, if there is one.
+    pub fn last(&mut self) -> Option<&mut Run> {
+        self.runs.get_mut(self.last)
+    }
+
     /// Returns the lane of this number, if there is such a run and it has one.
     pub fn lane(&mut self, run: u64, number: u16) -> Option<&mut Lane> {
-        let place = self.place_of(run)?;
-        self.last = place;
-        let run = self.runs.get_mut(place)?;
+        let run = self.run(run)?;
         run.lanes.iter_mut().find(|lane| lane.number == number)
+    }
+}
+
+/// Returns the file of another run that the first line of a file names, if it names one.
+fn before_of(alloc: Global, begin: &Begin<'_>) -> Result<Option<NamedFile>, AllocError> {
+    match &begin.before {
+        Some(before) => Ok(Some(NamedFile::new(alloc, before)?)),
+        None => Ok(None),
     }
 }
 

@@ -1,8 +1,13 @@
 //! Words as they are printed.
 
+ghost use Rattle.std.specs.Prelude.{◌≡◌, true};
+ghost use Rattle.std.specs.Char.{encode_utf8};
 ghost use Rattle.std.specs.Fmt.{WritesOnOk};
-ghost use Rattle.rad_audit.specs.Shown.{word_text};
+ghost use Rattle.std.specs.List.{flat_map};
+ghost use Rattle.rad_audit.specs.Cells.{is_escaped};
+ghost use Rattle.rad_audit.specs.Shown.{octet_text, word_text};
 
+use rad_log::Escaped;
 use std::alloc::{AllocError, Global};
 use std::fmt;
 
@@ -14,14 +19,6 @@ pub struct Shown<'a>(pub &'a str);
 /// A character of such a word.
 #[derive(Clone, Copy)]
 struct ShownCharacter(char);
-
-/// Octets, each printed as `%` and two hexadecimal digits.
-#[derive(Clone, Copy)]
-pub struct EscapedOctets<'a>(pub &'a [u8]);
-
-/// One of them.
-#[derive(Clone, Copy)]
-pub struct EscapedOctet(pub u8);
 
 impl fmt::Display for Shown<'_> {
     ghost use Rattle.std.specs.Prelude.{Some};
@@ -56,38 +53,20 @@ impl fmt::Display for ShownCharacter {
         if !character.is_control() {
             return write!(f, "{character}");
         }
-        let mut room = [0; 4];
-        let octets = EscapedOctets(character.encode_utf8(&mut room).as_bytes());
-        write!(f, "{octets}")
+        write_escaped(f, character)
     }
 }
 
-impl fmt::Display for EscapedOctets<'_> {
-    ghost use Rattle.std.specs.Prelude.{Some};
-    ghost use Rattle.std.specs.List.{flat_map};
-    ghost use Rattle.rad_audit.specs.Shown.{octet_text};
-
-    ghost output = { λ octets. Some (flat_map octet_text octets.0.now) };
-
-    fn fmt<W: fmt::Write>(&self, f: &mut fmt::Formatter<W>) -> fmt::Result {
-        for octet in self.0 {
-            let octet = EscapedOctet(*octet);
-            write!(f, "{octet}")?;
-        }
-        Ok(())
-    }
-}
-
-impl fmt::Display for EscapedOctet {
-    ghost use Rattle.std.specs.Prelude.{Some};
-    ghost use Rattle.rad_audit.specs.Shown.{octet_text};
-
-    ghost output = { λ octet. Some (octet_text octet.0) };
-
-    fn fmt<W: fmt::Write>(&self, f: &mut fmt::Formatter<W>) -> fmt::Result {
-        let octet = self.0;
-        write!(f, "%{:x}{:x}", octet / 16, octet % 16)
-    }
+/// Writes each octet of a character as `%` and two hexadecimal digits, if it is a control character, `%` or `\`.
+pub fn write_escaped<W: fmt::Write>(f: &mut fmt::Formatter<W>, character: char) -> fmt::Result
+    ensures { is_escaped character ≡ true → WritesOnOk W.write_str_gives f.old result (flat_map octet_text (encode_utf8 character)) f.new }
+{
+    let mut room = [0; 4];
+    let octets = Escaped {
+        octets: character.encode_utf8(&mut room).as_bytes(),
+        also: Some(b'\\'),
+    };
+    write!(f, "{octets}")
 }
 
 /// A word that owns its characters. It is printed as [`Shown`].

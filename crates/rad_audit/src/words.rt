@@ -1,6 +1,7 @@
 //! The words that the program is called with.
 
 use crate::faults::Fault;
+use crate::kept_sums::{KeptSum, KeptSums};
 use crate::printing::Asked;
 use clap::error::ErrorKind;
 use clap::{Arg, ArgAction, ArgMatches, Command};
@@ -25,6 +26,8 @@ pub struct Words<'a> {
     pub rows: bool,
     /// Which parts are asked for.
     pub asked: Asked,
+    /// The sums that somebody kept.
+    pub sums: KeptSums<'a>,
     /// The configuration's.
     pub config: &'a str,
     /// The ledgers', in the order in which they are read.
@@ -65,11 +68,14 @@ fn words_of<'a>(alloc: Global, matches: &ArgMatches<'a>) -> Result<Words<'a>, Fa
     let asked = Asked {
         from: matches.get_flag("from"),
         partial: matches.get_flag("partial"),
+        all: matches.get_flag("all"),
     };
+    let sums = sums_of(alloc, matches.get_strs("sum").unwrap_or(&[]))?;
     match files.to_vec(alloc) {
         Ok(files) => Ok(Words {
             rows,
             asked,
+            sums,
             config,
             files,
         }),
@@ -77,40 +83,53 @@ fn words_of<'a>(alloc: Global, matches: &ArgMatches<'a>) -> Result<Words<'a>, Fa
     }
 }
 
+/// Returns the sums that these words name.
+fn sums_of<'a>(alloc: Global, words: &[&'a str]) -> Result<KeptSums<'a>, Fault> {
+    let mut sums = KeptSums::new(alloc);
+    for word in words {
+        let Some(sum) = KeptSum::read(word) else {
+            return Err(Fault::Usage);
+        };
+        if sums.add(sum).is_err() {
+            return Err(Fault::Memory);
+        }
+    }
+    Ok(sums)
+}
+
 /// Returns the words that the program takes.
 fn command<'a>(alloc: Global) -> Result<Command<'a>, AllocError> {
     let command = Command::new(alloc, "rad_audit")
         .version(VERSION)
         .about("Audits ledgers of rad_proxy. rad_audit(1) says what it prints.")
-        .arg(rows_word(alloc))?;
-    let command = command.arg(from_word(alloc))?;
-    let command = command.arg(partial_word(alloc))?;
+        .arg(flag(
+            alloc,
+            "rows",
+            "Print a row for each entry that is right, and all else on standard error",
+        ))?
+        .arg(flag(alloc, "from", "The first files of a run are left out"))?
+        .arg(flag(alloc, "partial", "They are, or not all of it can be judged"))?
+        .arg(flag(alloc, "all", "No run before another one is left out"))?;
+    let command = command.arg(sum_word(alloc))?;
     let command = command.arg(config_word(alloc))?;
     command.arg(file_words(alloc))
 }
 
-/// Returns the word `--rows`.
-fn rows_word<'a>(alloc: Global) -> Arg<'a> {
-    Arg::new(alloc, "rows")
-        .long("rows")
-        .help("Print a row for each entry that is right, and all else on standard error")
+/// Returns the word `--` and this name, which takes no value.
+fn flag<'a>(alloc: Global, name: &'a str, help: &'a str) -> Arg<'a> {
+    Arg::new(alloc, name)
+        .long(name)
+        .help(help)
         .action(ArgAction::SetTrue)
 }
 
-/// Returns the word `--from`.
-fn from_word<'a>(alloc: Global) -> Arg<'a> {
-    Arg::new(alloc, "from")
-        .long("from")
-        .help("The first files of a run are left out")
-        .action(ArgAction::SetTrue)
-}
-
-/// Returns the word `--partial`.
-fn partial_word<'a>(alloc: Global) -> Arg<'a> {
-    Arg::new(alloc, "partial")
-        .long("partial")
-        .help("They are, or the configuration lacks home servers or clients")
-        .action(ArgAction::SetTrue)
+/// Returns the word `--sum`, which may stand several times.
+fn sum_word<'a>(alloc: Global) -> Arg<'a> {
+    Arg::new(alloc, "sum")
+        .long("sum")
+        .value_name("RUN:FILE:SUM")
+        .help("Look whether the run has this sum in this file")
+        .action(ArgAction::Append)
 }
 
 /// Returns the word CONFIG, which is required.

@@ -2,7 +2,7 @@
 use Rattle.std.proofs.Common.{◌≡◌, ◌≢◌, ℕ, ◌+◌, ◌-◌, ◌<◌, ◌≤◌, List, [], ◌∷◌, ◌++◌, length, take, drop, slice_range, refl, sym, ap, ◌∙◌, subst, Bool, true, false, Decides, eqb, arith, length-append, length-drop, length-take}
 use Rattle.std.specs.Bool.{OnTrue, OnFalse}
 use Rattle.std.specs.List.{AllByRecursion}
-use Rattle.std.proofs.lemmas.List.{append-nil, same_from_push, take_rest}
+use Rattle.std.proofs.lemmas.List.{append-nil, drop-drop, same_from_push, take_rest}
 use Rattle.std.proofs.lemmas.Bool.{false≢true}
 use Rattle.std.proofs.lemmas.Bool.Decides.{Decides-eqb}
 use Rattle.std.proofs.lemmas.Slice.Eq.{slice_eq-Decides}
@@ -16,7 +16,7 @@ use Rattle.rad_packet.proofs.Parts.{AreOctets-append, AreOctets-take, AreOctets-
 use Rattle.rad_packet.proofs.Walk.{joined-append}
 use Rattle.rad_auth.specs.Answers.{Answers}
 use Rattle.rad_auth.specs.Authenticator.{IsRightResponse, accounting_response}
-use Rattle.rad_auth.specs.Mark.{EndsWithMark, mark_attribute}
+use Rattle.rad_auth.specs.Mark.{EndsWithMark, mark_value, mark_attribute}
 use Rattle.rad_auth.specs.Refusing.{ReturnsItsMark}
 use Rattle.rad_auth.specs.internal.Returning.{HasAttributeAt, IsReturnedAt, octets_without}
 use Rattle.rad_auth.specs.declared.mark.Mark.{Mark}
@@ -48,6 +48,12 @@ mark_at_end sending mark p ends =
     omega (arith, ap length whole, length-append (joined ends.before) (t ++ []), length-append t [], length-drop 20 sending, p.least) in
     let place : length sending - 12 ≡ 20 + length (joined ends.before) = omega arith in
     from_here 20 sending (joined ends.before) t [] (length sending - 12) 12 p.least whole place (sym n) ∙ append-nil t
+
+-- and the last ten are the mark's Value
+pub value_at_end : (sending : List ℕ) (mark : Mark) → IsPacketText sending → EndsWithMark mark sending → drop (length sending - 10) sending ≡ mark_value mark
+value_at_end sending mark p ends =
+    let place : length sending - 10 ≡ length sending - 12 + 2 = omega (arith, p.least) in
+    ap (λ n. drop n sending) place ∙ sym (drop-drop 2 (length sending - 12) sending) ∙ ap (drop 2) (mark_at_end sending mark p ends)
 
 -- the octets at the place of an attribute are its text
 pub attribute_at_place : (text : List ℕ) (before : List Attribute) (a : Attribute) (after : List Attribute) (place len : ℕ) → IsPacketText text → StandsAt text before a after place len → slice_range text place (place + len) ≡ attribute_text a

@@ -3,7 +3,7 @@
 ghost use Rattle.std.specs.Prelude.{◌≡◌, ◌≤◌, ◌++◌, length};
 ghost use Rattle.rad_auth.specs.Hmac.{each_xor, hmac_md5, key_block, short_key};
 
-use crate::copying::put;
+use crate::octets::put;
 use md5::{Digest, Md5};
 
 /// The block length of MD5 in octets.

@@ -10,7 +10,6 @@
 
 mod authenticators;
 mod buffer;
-mod copying;
 mod forwarding;
 mod hmac;
 mod laws;

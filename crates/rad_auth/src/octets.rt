@@ -1,4 +1,6 @@
-//! Octets on the heap.
+//! Octets on the heap, and octets that are copied into a buffer.
+
+ghost use Rattle.std.specs.Prelude.{◌≡◌, ◌≤◌, ◌++◌, length, drop};
 
 use std::alloc::{AllocError, Global};
 use std::marker::Model;
@@ -47,4 +49,12 @@ impl Octets {
     {
         self.octets.as_slice()
     }
+}
+
+/// Copies octets to the front of a buffer.
+pub(crate) fn put(buffer: &mut [u8], octets: &[u8])
+    requires { length octets.now ≤ length buffer.old }
+    ensures { buffer.new ≡ octets.now ++ drop (length octets.now) buffer.old }
+{
+    buffer[..octets.len()].copy_from_slice(octets);
 }

@@ -1,5 +1,6 @@
 //! A response, with the packets and secrets that verify it.
 
+use crate::mark::{Mark, VALUE_LENGTH};
 use crate::octets::Octets;
 use crate::secret::Secret;
 use rad_packet::PacketRef;
@@ -50,9 +51,11 @@ impl Model for Reply {
 }
 
 impl Reply {
-    ghost use Rattle.std.specs.Prelude.{◌≡◌, IfOk};
+    ghost use Rattle.std.specs.Prelude.{◌≡◌, ◌<◌, ◌^◌, ◌++◌, List, ℕ, IfOk};
     ghost use Rattle.rad_auth.specs.Answers.{Answers};
+    ghost use Rattle.rad_auth.specs.Mark.{EndsWithMark, mark_value};
     ghost use Rattle.rad_auth.specs.Replied.{IsAnswer};
+    ghost use Rattle.rad_auth.specs.declared.mark.Mark.{Mark};
 
     /// Appends copies of the packets and secrets to a response, and keeps all of it. It allocates nothing if the vector
     /// has room for them.
@@ -120,6 +123,15 @@ impl Reply {
         ensures { result.now ≡ self.now.sending }
     {
         &self.octets.as_slice()[usize::from(self.response_end)..usize::from(self.sending_end)]
+    }
+
+    /// Returns the mark of the packet that was sent to the home server: its last attribute (RFC 2865 section 5.33).
+    pub fn mark(&self) -> Mark
+        ensures ends { EndsWithMark result self.now.sending }
+        ensures alone { (mark : Mark) → mark.lane < 2 ^ 16 → mark.number < 2 ^ 64 → EndsWithMark mark self.now.sending → result ≡ mark }
+    {
+        let end = usize::from(self.sending_end);
+        Mark::of_value(&self.octets.as_slice()[end - VALUE_LENGTH..end])
     }
 
     /// Returns the octets of the home server's reply, without padding.

@@ -1,6 +1,6 @@
 //! Shared secrets.
 
-use crate::copying::put;
+use crate::octets::put;
 use std::error::Error;
 use std::fmt;
 use std::marker::Model;

@@ -112,14 +112,14 @@ impl Clients {
     }
 }
 
-/// Returns the index of the client with an address.
+/// For the proof: returns the index of the client with an address.
 fn place_in(places: &BTreeMap<[u8; 4], usize>, address: [u8; 4]) -> Option<usize>
     ensures { result ≡ tree.get (slice_cmp nat_cmp) places.now address }
 {
     places.get(&address).copied()
 }
 
-/// Returns the client at an index.
+/// For the proof: returns the client at an index.
 fn client_at(items: &[Client], place: usize) -> Option<&Client>
     ensures { option_copied result ≡ slice_get items.now place }
 {

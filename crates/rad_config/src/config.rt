@@ -11,17 +11,17 @@ use std::marker::Model;
 #[derive(Drop)]
 pub struct Config {
     /// The address and port on which the clients' datagrams are received.
-    listen: Endpoint,
+    pub(crate) listen: Endpoint,
     /// How long the program waits for outstanding requests at its end, in milliseconds.
-    linger: u32,
+    pub(crate) linger: u32,
     /// The clients, 1 to 256, found by address.
-    clients: Clients,
+    pub(crate) clients: Clients,
     /// The home servers, 1 to 64. The index of one is its lane.
-    homes: Homes,
+    pub(crate) homes: Homes,
     /// The realms, at most 256, found by name.
-    realms: Realms,
+    pub(crate) realms: Realms,
     /// The lane of requests without a realm, if there is a default home server.
-    default_lane: Option<u16>,
+    pub(crate) default_lane: Option<u16>,
 }
 
 impl Model for Config {
@@ -39,27 +39,6 @@ impl Config {
     ghost use Rattle.std.specs.Prelude.{◌≡◌, ◌<◌, ◌≤◌, Some, All, length, IfSome, option_copied, option_map};
     ghost use Rattle.rad_config.specs.Realm.{client_of, lane_in, lane_by, lane_of, IsRank};
     ghost use Rattle.rad_config.specs.WellFormed.{IsWellFormed};
-
-    pub(crate) fn new(
-        listen: Endpoint,
-        linger: u32,
-        clients: Clients,
-        homes: Homes,
-        realms: Realms,
-        default_lane: Option<u16>,
-    ) -> Config
-        requires { IsWellFormed (record { listen = listen; linger = linger; clients = clients; homes = homes; realms = realms; default_lane = default_lane }) }
-        ensures { result ≡ record { listen = listen; linger = linger; clients = clients; homes = homes; realms = realms; default_lane = default_lane } }
-    {
-        Config {
-            listen,
-            linger,
-            clients,
-            homes,
-            realms,
-            default_lane,
-        }
-    }
 
     /// Returns the client with an IPv4 address. It takes time logarithmic in the number of clients, and allocates
     /// nothing.

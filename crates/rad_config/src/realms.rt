@@ -167,21 +167,6 @@ fn count_of(realms: &[Realm], lane: u16) -> usize
     realms.iter().filter(|realm| realm.lane() == lane).count()
 }
 
-/// Returns the destination of a name in lower case.
-fn destination_kept(places: &BTreeMap<Vec<u8>, Destination>, name: &[u8]) -> Option<Destination>
-    ensures { result ≡ tree.get_by (λ k. slice_cmp nat_cmp name.now k.items) places.now }
-{
-    places.get(name).copied()
-}
-
-/// Returns the first `count` octets.
-fn front(octets: &[u8], count: usize) -> &[u8]
-    requires { count ≤ length octets.now }
-    ensures { result.now ≡ take count octets.now }
-{
-    &octets[..count]
-}
-
 /// Returns a name with its ASCII letters in lower case.
 fn lower_case(alloc: Global, name: &[u8]) -> Result<Vec<u8>, AllocError>
     ensures { IfOk result (λ v. v.items ≡ map to_ascii_lowercase name.now) }
@@ -199,4 +184,19 @@ fn put_lower_case(buffer: &mut [u8], name: &[u8])
     let front = &mut buffer[..name.len()];
     front.copy_from_slice(name);
     front.make_ascii_lowercase();
+}
+
+/// For the proof: returns the destination of a name in lower case.
+fn destination_kept(places: &BTreeMap<Vec<u8>, Destination>, name: &[u8]) -> Option<Destination>
+    ensures { result ≡ tree.get_by (λ k. slice_cmp nat_cmp name.now k.items) places.now }
+{
+    places.get(name).copied()
+}
+
+/// For the proof: returns the first `count` octets.
+fn front(octets: &[u8], count: usize) -> &[u8]
+    requires { count ≤ length octets.now }
+    ensures { result.now ≡ take count octets.now }
+{
+    &octets[..count]
 }

@@ -4,9 +4,9 @@ use Rattle.std.proofs.Math.Nat.{suc-mul}
 use Rattle.rad_desk.specs.Traffic.{Event, arrived, departed, told, drew, noted, logged}
 use Rattle.rad_desk.specs.Calls.{Passes, IsQuiet, IsALook, arrivals, departures, AreAtMost}
 
-logged-append : (log : Option (List Event)) (first then : List Event) → logged (logged log first) then ≡ logged log (first ++ then)
-logged-append log [] then = refl
-logged-append log (event ∷ first) then = logged-append (noted log event) first then
+pub logged_append : (log : Option (List Event)) (first then : List Event) → logged (logged log first) then ≡ logged log (first ++ then)
+logged_append log [] then = refl
+logged_append log (event ∷ first) then = logged_append (noted log event) first then
 
 pub quiet_append : (first then : List Event) → IsQuiet first → IsQuiet then → IsQuiet (first ++ then)
 quiet_append [] then a b = b
@@ -23,7 +23,7 @@ passes_none Right old new none same = record { events = []; passed = same; right
 pub passes_join : (P Q R : List Event → Type 0) → ((first then : List Event) → P first → Q then → R (first ++ then)) → (old mid new : Option (List Event)) → Passes P old mid → Passes Q mid new → Passes R old new
 passes_join P Q R join old mid new a b = record {
   events = a.events ++ b.events;
-  passed = b.passed ∙ ap (λ log. logged log b.events) a.passed ∙ logged-append old a.events b.events;
+  passed = b.passed ∙ ap (λ log. logged log b.events) a.passed ∙ logged_append old a.events b.events;
   right = join a.events b.events a.right b.right;
 }
 

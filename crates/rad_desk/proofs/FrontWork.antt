@@ -1,6 +1,6 @@
 -- The work in front, put together from its parts.
 use Rattle.std.proofs.Common.{◌≡◌, ◌<◌, ◌≤◌, ◌+◌, ℕ, zero, suc, List, [], ◌∷◌, ◌++◌, length, get_or, set, Option, refl, sym, ap, ◌∙◌, subst, arith, append_assoc, inl, inr, eq-eqb, ne_eqb}
-use Rattle.std.specs.Prelude.{All, ◌≢◌, ◌⊎◌}
+use Rattle.std.specs.Prelude.{All, ◌≢◌, ◌⊎◌, map as each}
 use Rattle.std.specs.List.{flat_map}
 use Rattle.std.proofs.lemmas.List.{append-nil}
 use Rattle.std.proofs.lemmas.List.Concat.{flat_map-append}
@@ -10,14 +10,14 @@ use Rattle.rad_realms.specs.declared.checking.Incoming.{Incoming}
 use Rattle.rad_realms.specs.Configuration.{Configuration}
 use Rattle.rad_realms.specs.Incoming.{Takes}
 use Rattle.rad_lane.specs.declared.outgoing.Outgoing.{Outgoing}
-use Rattle.rad_rings.specs.declared.inlet.Inlet.{Inlet}
+use Rattle.rad_locks.specs.declared.inlet.Inlet.{Inlet}
 use Rattle.rad_desk.specs.declared.wire.Delivery.{Delivery}
-use Rattle.rad_rings.specs.Inlet.{taken, SameInlet}
-use Rattle.rad_desk.specs.Traffic.{Event, arrived, departed, told, endpoint, noted}
+use Rattle.rad_locks.specs.Inlet.{taken, SameInlet}
+use Rattle.rad_desk.specs.Traffic.{Event, arrived, departed, told, endpoint, noted, logged}
 use Rattle.rad_desk.specs.Calls.{Passes, IsQuiet, IsALook, IsSent, AreAtMost}
 use Rattle.rad_desk.specs.Once.{IsAnswerTo, IsUnanswered, SendsBack, SendsAnAnswer, HandsOne, Hands, Part, quiet, back, given, events_of, IsRight, given_in, given_by, EachGave, WorksInFront}
-use Rattle.rad_desk.specs.HandOver.{response_of, responses_of}
-use Rattle.rad_desk.proofs.CallsJoined.{passes_none, passes_widen, passes_after, most_none, most_look}
+use Rattle.rad_desk.specs.HandOver.{handed_at, response_of, handings_of}
+use Rattle.rad_desk.proofs.CallsJoined.{logged_append, passes_none, passes_widen, passes_after, most_none, most_look}
 
 -- Inlets of the same rings.
 same_refl : (i : Inlet) → SameInlet i i
@@ -104,6 +104,17 @@ unanswered_quiet : (events : List Event) → IsUnanswered events → IsQuiet eve
 unanswered_quiet events (inl none) = subst IsQuiet (sym none) tt
 unanswered_quiet events (inr (socket, from, question, later, is, look)) = subst IsQuiet (sym is) (look_quiet later look)
 
+-- What is handed over first, and then.
+handings_append : (since : Option (List Event)) (first then : List Part) → handings_of since (first ++ then) ≡ handings_of since first ++ handings_of (logged since (flat_map events_of first)) then
+handings_append since [] then = refl
+handings_append since (part ∷ first) then =
+    let amid : Option (List Event) = logged since (events_of part) in
+    ap (λ l. each (handed_at since) (response_of part) ++ l) (
+    handings_append amid first then
+    ∙ ap (λ log. handings_of amid first ++ handings_of log then) (logged_append since (events_of part) (flat_map events_of first))
+    )
+    ∙ sym (append_assoc (each (handed_at since) (response_of part)) (handings_of amid first) (handings_of (logged since (events_of part ++ flat_map events_of first)) then))
+
 module _ (config : Configuration) where
   pub works_none : (inlets : List Inlet) → WorksInFront config inlets inlets []
   works_none inlets = record {
@@ -113,9 +124,9 @@ module _ (config : Configuration) where
     gave = gave_none [] 0 inlets (λ at from. refl);
   }
 
-  pub responses_none : (inlets : List Inlet) → responses_of (works_none inlets).parts ≡ []
+  pub handings_none : (inlets : List Inlet) (since : Option (List Event)) → handings_of since (works_none inlets).parts ≡ []
   unfolding works_none
-  responses_none inlets = refl
+  handings_none inlets since = refl
 
   -- A part in which no inlet gave anything.
   works_part : (part : Part) (inlets : List Inlet) (events : List Event) → events ≡ events_of part → IsRight config (length inlets) part → ((at : ℕ) → given_in at part ≡ []) → WorksInFront config inlets inlets events
@@ -137,9 +148,10 @@ module _ (config : Configuration) where
     gave = gave_append a.parts b.parts 0 old mid new a.gave b.gave;
   }
 
-  pub responses_append : (old mid new : List Inlet) (first then : List Event) (a : WorksInFront config old mid first) (b : WorksInFront config mid new then) → responses_of (works_append old mid new first then a b).parts ≡ responses_of a.parts ++ responses_of b.parts
+  pub handings_join : (old mid new : List Inlet) (since : Option (List Event)) (first then : List Event) (a : WorksInFront config old mid first) (b : WorksInFront config mid new then) → handings_of since (works_append old mid new first then a b).parts ≡ handings_of since a.parts ++ handings_of (logged since first) b.parts
   unfolding works_append
-  responses_append old mid new first then a b = flat_map-append response_of a.parts b.parts
+  handings_join old mid new since first then a b =
+      handings_append since a.parts b.parts ∙ ap (λ events. handings_of since a.parts ++ handings_of (logged since events) b.parts) (sym a.passed)
 
   -- What a turn takes in, whatever the inlets are.
   pub works_taken : (inlets : List Inlet) (events : List Event) → SendsBack config events → WorksInFront config inlets inlets events
@@ -147,10 +159,10 @@ module _ (config : Configuration) where
   works_taken inlets events (inr goes) =
       works_part (back goes.socket goes.from goes.question goes.moment goes.octets goes.delivery) inlets events goes.is goes.answers (λ at. refl)
 
-  pub responses_taken : (inlets : List Inlet) (events : List Event) (sends : SendsBack config events) → responses_of (works_taken inlets events sends).parts ≡ []
+  pub handings_taken : (inlets : List Inlet) (since : Option (List Event)) (events : List Event) (sends : SendsBack config events) → handings_of since (works_taken inlets events sends).parts ≡ []
   unfolding works_taken works_part
-  responses_taken inlets events (inl none) = refl
-  responses_taken inlets events (inr goes) = refl
+  handings_taken inlets since events (inl none) = refl
+  handings_taken inlets since events (inr goes) = refl
 
   -- What a look at the inlet at a place does.
   pub works_handed_by : (inlets : List Inlet) (place : ℕ) (other now : Inlet) → place < length inlets → (events : List Event) → SameInlet (get_or inlets place other) now → ((taken now ≡ taken (get_or inlets place other)) × (events ≡ [])) ⊎ HandsOne (get_or inlets place other) now events → WorksInFront config inlets (set inlets place now) events
@@ -169,13 +181,13 @@ module _ (config : Configuration) where
         gave = gave_one 0 place place one.outgoing one.delivery inlets other now (omega arith) within same one.took;
       }
 
-  pub responses_still : (inlets : List Inlet) (place : ℕ) (other now : Inlet) (within : place < length inlets) (events : List Event) (same : SameInlet (get_or inlets place other) now) (none : (taken now ≡ taken (get_or inlets place other)) × (events ≡ [])) → responses_of (works_handed_by inlets place other now within events same (inl none)).parts ≡ []
+  pub handings_still : (inlets : List Inlet) (place : ℕ) (other now : Inlet) (within : place < length inlets) (since : Option (List Event)) (events : List Event) (same : SameInlet (get_or inlets place other) now) (none : (taken now ≡ taken (get_or inlets place other)) × (events ≡ [])) → handings_of since (works_handed_by inlets place other now within events same (inl none)).parts ≡ []
   unfolding works_handed_by
-  responses_still inlets place other now within events same none = refl
+  handings_still inlets place other now within since events same none = refl
 
-  pub responses_one : (inlets : List Inlet) (place : ℕ) (other now : Inlet) (within : place < length inlets) (events : List Event) (same : SameInlet (get_or inlets place other) now) (one : HandsOne (get_or inlets place other) now events) → responses_of (works_handed_by inlets place other now within events same (inr one)).parts ≡ one.outgoing ∷ []
+  pub handings_one : (inlets : List Inlet) (place : ℕ) (other now : Inlet) (within : place < length inlets) (since : Option (List Event)) (events : List Event) (same : SameInlet (get_or inlets place other) now) (one : HandsOne (get_or inlets place other) now events) → handings_of since (works_handed_by inlets place other now within events same (inr one)).parts ≡ handed_at since one.outgoing ∷ []
   unfolding works_handed_by
-  responses_one inlets place other now within events same one = refl
+  handings_one inlets place other now within since events same one = refl
 
   -- A datagram came and was taken, and it was answered or not.
   goes_back : (socket : ℕ) (from : Endpoint) (question : List ℕ) (incoming : Incoming) → Takes config from.address from.port question incoming → (then : List Event) → SendsAnAnswer socket from incoming then → SendsBack config (arrived socket from question ∷ then)

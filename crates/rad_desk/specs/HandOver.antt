@@ -1,24 +1,31 @@
 -- What the front hands over to a ledger (own): the responses that the inlets gave, each once, in the order in which they
--- were given and sent.
-use Rattle.std.specs.Prelude.{◌≡◌, List, [], ◌∷◌, ◌++◌, Option, Some, None}
-use Rattle.std.specs.List.{flat_map}
+-- were given and sent, and each right before it was sent.
+use Rattle.std.specs.Prelude.{◌≡◌, List, [], ◌∷◌, ◌++◌, map as each, Option, Some, None}
 use Rattle.rad_realms.specs.Configuration.{Configuration}
 use Rattle.rad_lane.specs.declared.outgoing.Outgoing.{Outgoing}
-use Rattle.rad_rings.specs.declared.inlet.Inlet.{Inlet}
-use Rattle.rad_rings.specs.Inlet.{taken}
-use Rattle.rad_desk.specs.Traffic.{Event}
-use Rattle.rad_desk.specs.Once.{Part, quiet, back, given, WorksInFront}
+use Rattle.rad_locks.specs.declared.inlet.Inlet.{Inlet}
+use Rattle.rad_locks.specs.Inlet.{taken}
+use Rattle.rad_desk.specs.Traffic.{Event, logged}
+use Rattle.rad_desk.specs.Once.{Part, quiet, back, given, events_of, WorksInFront}
 
--- What a ledger keeps once it was given these responses, behind what it kept before. A ledger may keep no list.
-abbrev pub kept_with : Option (List Outgoing) → List Outgoing → Option (List Outgoing)
-kept_with None responses = None
-kept_with (Some before) responses = Some (before ++ responses)
+-- A response that was handed over, and all that had passed over the wire by then. A wire may keep no log.
+pub record Handing : Type 0 where
+  pub outgoing : Outgoing
+  pub passed : Option (List Event)
 
--- The inlet gave some responses, in order, and the ledger was given the same ones.
-pub record KeepsTaken (old new : Inlet) (before after : Option (List Outgoing)) : Type 0 where
+abbrev pub handed_at : Option (List Event) → Outgoing → Handing
+handed_at passed outgoing = record { outgoing = outgoing; passed = passed }
+
+-- What a ledger keeps once these were handed over to it, behind what it kept before. A ledger may keep no list.
+abbrev pub kept_with : Option (List Handing) → List Handing → Option (List Handing)
+kept_with None more = None
+kept_with (Some before) more = Some (before ++ more)
+
+-- The inlet gave some responses, in order, and the same ones were handed over, before anything more passed.
+pub record KeepsTaken (old new : Inlet) (since : Option (List Event)) (before after : Option (List Handing)) : Type 0 where
   pub responses : List Outgoing
   pub took : taken new ≡ taken old ++ responses
-  pub kept : after ≡ kept_with before responses
+  pub kept : after ≡ kept_with before (each (handed_at since) responses)
 
 -- The response of a part, if an inlet gave one in it.
 abbrev pub response_of : Part → List Outgoing
@@ -26,13 +33,16 @@ response_of (quiet events) = []
 response_of (back socket from question moment octets delivery) = []
 response_of (given place outgoing delivery) = outgoing ∷ []
 
--- The responses that the inlets gave in these parts, in order, whatever their place.
-abbrev pub responses_of : List Part → List Outgoing
-responses_of parts = flat_map response_of parts
+-- What is handed over in these parts, the first of which began when this had passed: the response of each part, in order,
+-- whatever its place. It is handed over as the part begins, so that its own datagram is what passes next.
+abbrev pub handings_of : Option (List Event) → List Part → List Handing
+handings_of since [] = []
+handings_of since (part ∷ more) = each (handed_at since) (response_of part) ++ handings_of (logged since (events_of part)) more
 
--- The front works in parts. The ledger was given exactly the responses of the parts, each once, in the order of the
--- parts: the order in which the inlets gave them, and in which they were sent. Those of one inlet are what it gave, by
--- `EachGave` of the parts.
-pub record HandsOver (config : Configuration) (old new : List Inlet) (before after : Option (List Outgoing)) (events : List Event) : Type 0 where
+-- The front works in parts, after what had passed before. Exactly the responses of the parts were handed over, each once, and
+-- in the order of the parts: the order in which the inlets gave them, and in which they were sent. When each one was handed
+-- over, exactly the parts before it had passed, and it was not yet sent. Those of one inlet are what it gave, by `EachGave` of
+-- the parts.
+pub record HandsOver (config : Configuration) (old new : List Inlet) (since : Option (List Event)) (before after : Option (List Handing)) (events : List Event) : Type 0 where
   pub work : WorksInFront config old new events
-  pub kept : after ≡ kept_with before (responses_of work.parts)
+  pub kept : after ≡ kept_with before (handings_of since work.parts)

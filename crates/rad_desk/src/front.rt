@@ -17,9 +17,9 @@ use crate::tally::Tally;
 use crate::wire::Wire;
 use rad_auth::check_response;
 use rad_lane::Taken;
+use rad_locks::{Inlet, Proxy};
 use rad_packet::Datagram;
 use rad_realms::{Config, Endpoint, Incoming, check_in};
-use rad_rings::{Inlet, Proxy};
 use std::alloc::Global;
 use std::sync::Wait;
 
@@ -60,11 +60,8 @@ pub fn front_worker<W: Wire, G: Gate>(
 }
 
 /// Serves the clients as [`front_worker`] does, and hands over each response that an inlet gives to a ledger: once, in
-/// the order in which the inlets gave them, and before it is sent.
-///
-/// The contract says which responses the ledger is given and sent, and that the order is the same. That a response is
-/// handed over before its own datagram is sent stands in no contract, since a wire and a ledger have a list each: it is
-/// tested.
+/// the order in which the inlets gave them, and right before it is sent: the ledger's list tells with each response what
+/// had passed over the wire when it was handed over.
 pub fn front_worker_with<W: Wire, L: Ledger, G: Gate>(
     rt: &impl Wait,
     alloc: Global,
@@ -77,7 +74,7 @@ pub fn front_worker_with<W: Wire, L: Ledger, G: Gate>(
     turns: u64,
 ) -> Tally
     ensures works { Passes (WorksInFront config.now inlets.old inlets.new) (W.log wire.old) (W.log wire.new) }
-    ensures hands_over { Passes (HandsOver config.now inlets.old inlets.new (L.kept ledger.old) (L.kept ledger.new)) (W.log wire.old) (W.log wire.new) }
+    ensures hands_over { Passes (HandsOver config.now inlets.old inlets.new (W.log wire.old) (L.kept ledger.old) (L.kept ledger.new)) (W.log wire.old) (W.log wire.new) }
     ensures turns { result.turns ≤ turns }
     ensures made { Passes (AreAtMost result.turns (result.turns * (1 + length inlets.old))) (W.log wire.old) (W.log wire.new) }
 {
@@ -101,7 +98,7 @@ fn take_turn<R: Wait, W: Wire, L: Ledger, G: Gate>(
     inlets: &mut [Inlet],
     ledger: &mut L,
 ) -> bool
-    ensures hands_over { Passes (HandsOver config.now inlets.old inlets.new (L.kept ledger.old) (L.kept ledger.new)) (W.log shift.old.wire.now) (W.log shift.new.wire.now) }
+    ensures hands_over { Passes (HandsOver config.now inlets.old inlets.new (W.log shift.old.wire.now) (L.kept ledger.old) (L.kept ledger.new)) (W.log shift.old.wire.now) (W.log shift.new.wire.now) }
     ensures made { Passes (AreAtMost 1 (1 + length inlets.old)) (W.log shift.old.wire.now) (W.log shift.new.wire.now) }
     ensures keeps { Keeps shift.old shift.new }
 {
@@ -242,7 +239,7 @@ fn hand_out<R, W: Wire, L: Ledger, G: Gate>(
     inlets: &mut [Inlet],
     ledger: &mut L,
 ) -> bool
-    ensures hands_over { (config : Configuration) → Passes (HandsOver config inlets.old inlets.new (L.kept ledger.old) (L.kept ledger.new)) (W.log shift.old.wire.now) (W.log shift.new.wire.now) }
+    ensures hands_over { (config : Configuration) → Passes (HandsOver config inlets.old inlets.new (W.log shift.old.wire.now) (L.kept ledger.old) (L.kept ledger.new)) (W.log shift.old.wire.now) (W.log shift.new.wire.now) }
     ensures sends { Passes (AreAtMost 0 (length inlets.old)) (W.log shift.old.wire.now) (W.log shift.new.wire.now) }
     ensures keeps { Keeps shift.old shift.new }
 {
@@ -262,7 +259,7 @@ fn take<R, W: Wire, L: Ledger, G: Gate>(
     ledger: &mut L,
 )
     ensures hands { Passes (Hands inlet.old inlet.new) (W.log shift.old.wire.now) (W.log shift.new.wire.now) }
-    ensures taken { KeepsTaken inlet.old inlet.new (L.kept ledger.old) (L.kept ledger.new) }
+    ensures taken { KeepsTaken inlet.old inlet.new (W.log shift.old.wire.now) (L.kept ledger.old) (L.kept ledger.new) }
     ensures keeps { Keeps shift.old shift.new }
 {
     let taken = inlet.take();
@@ -274,7 +271,7 @@ fn take<R, W: Wire, L: Ledger, G: Gate>(
         address: outgoing.client,
         port: outgoing.port,
     };
-    ledger.keep(&outgoing);
+    ledger.keep(&outgoing, &*shift.wire);
     shift.send(LISTEN, to, outgoing.reply.response());
     shift.report(&WorkerReport::Took {
         lane: inlet.lane(),

@@ -4,8 +4,8 @@ ghost use Rattle.std.specs.Prelude.{◌≡◌};
 ghost use Rattle.rad_desk.specs.Reports.{note_of};
 
 use rad_lane::Refusal;
+use rad_locks::{DeskFault, Origin, Spent, Standing};
 use rad_realms::{Dropped, Endpoint};
-use rad_rings::{DeskFault, Origin, Spent, Standing};
 use rad_tables::{Moment, Slot};
 
 /// The worker that asks or reports.
@@ -100,8 +100,8 @@ pub enum WorkerReport<'a> {
     },
     /// A receive failed.
     ReceiveFault,
-    /// A datagram is about to be sent to this address and port. If the gate traces, a request to a home server has its
-    /// origin.
+    /// A datagram is about to be sent to this address and port. If the gate asks for origins, a request to a home
+    /// server has its own.
     Sends {
         to: Endpoint,
         octets: &'a [u8],
@@ -162,16 +162,16 @@ pub enum WorkerReport<'a> {
         from: Endpoint,
         octets: &'a [u8],
     },
-    /// A datagram of the home server was dropped, for this reason. If the gate traces, it has the origin of the request
-    /// that was outstanding under the pair that it came to.
+    /// A datagram of the home server was dropped, for this reason. If the gate asks for origins, it has that of the
+    /// request that was outstanding under the pair that it came to.
     Unheard {
         fault: DeskFault,
         octets: &'a [u8],
         origin: Option<&'a Origin>,
     },
     /// The request that was outstanding under this pair of source port and Identifier is answered. The response of this
-    /// serial was added to the lane's ring, so the front has something to take. If the gate traces, it has the request's
-    /// origin.
+    /// serial was added to the lane's ring, so the front has something to take. If the gate asks for origins, it has the
+    /// request's.
     Answered {
         serial: u64,
         slot: Slot,
@@ -228,6 +228,15 @@ impl WorkerReport<'_> {
     }
 }
 
+/// What the worker of a lane is to report beside the events.
+#[derive(Clone, Copy, Debug, PartialEq, Eq)]
+pub struct Asked {
+    /// Whether it reports the lane's standing.
+    pub standing: bool,
+    /// Whether its reports have the origins of requests.
+    pub origins: bool,
+}
+
 /// The interface that a worker asks for permission before each call, and to which it reports. A gate that wants no more
 /// than the notes leaves out [`Gate::report`]; one that wants all that is known of an event has it, and no
 /// [`Gate::note`].
@@ -241,14 +250,12 @@ pub trait Gate {
     /// A worker notes an event.
     fn note(&self, _worker: Worker, _note: Note) {}
 
-    /// Returns whether the worker of a lane is to report the lane's standing.
-    fn asks(&self, _lane: u16) -> bool {
-        false
-    }
-
-    /// Returns whether the workers of lanes are to report the origins of requests.
-    fn traces(&self) -> bool {
-        false
+    /// Returns what the worker of a lane is to report beside the events. The default is nothing.
+    fn asks(&self, _lane: u16) -> Asked {
+        Asked {
+            standing: false,
+            origins: false,
+        }
     }
 
     /// A worker reports an event. A worker makes no other report; the default passes on the note of it, if it has one.

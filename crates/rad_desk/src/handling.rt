@@ -5,9 +5,9 @@ ghost use Rattle.rad_desk.specs.Handling.{Handles};
 
 use rad_auth::answer_status;
 use rad_lane::{Refusal, Taken};
+use rad_locks::Proxy;
 use rad_packet::Datagram;
 use rad_realms::Incoming;
-use rad_rings::Proxy;
 use rad_tables::Moment;
 use std::alloc::Global;
 use std::sync::Wait;

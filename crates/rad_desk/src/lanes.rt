@@ -5,14 +5,14 @@ ghost use Rattle.rad_desk.specs.Calls.{Passes, IsALook, AreAtMost};
 ghost use Rattle.rad_desk.specs.Keeping.{Keeps};
 ghost use Rattle.rad_desk.specs.Working.{WorksForHome, OncePassed, IsReceipt, IsStep, IsSentHome, slot_of, IsPortOf};
 
-use crate::gate::{Call, Gate, UpReason, Worker, WorkerReport};
+use crate::gate::{Asked, Call, Gate, UpReason, Worker, WorkerReport};
 use crate::shift::{Arrival, Buffers, Shift};
 use crate::tally::Tally;
 use crate::wire::Wire;
 use rad_lane::Action;
+use rad_locks::{DeskFault, Origin, Proxy, Stepped, Told};
 use rad_packet::Datagram;
 use rad_realms::{Endpoint, Home};
-use rad_rings::{DeskFault, Origin, Proxy, Stepped, Told};
 use rad_tables::{Moment, Slot};
 use std::alloc::Global;
 use std::sync::Wait;
@@ -97,7 +97,8 @@ fn hear<R: Wait, W: Wire, G: Gate>(
     if !shift.may(Call::Hear) {
         return false;
     }
-    let origin = origin_of_reply(shift, lane, socket, octets);
+    let asked = shift.gate.asks(lane);
+    let origin = origin_of_reply(shift, asked, lane, socket, octets);
     let now = shift.wire.now();
     let told = shift
         .proxy
@@ -135,9 +136,10 @@ fn tell_unheard<'b, R, W: Wire, G: Gate>(
     });
 }
 
-/// Returns the origin of the request that is outstanding under the pair that a reply came to, if the gate traces.
+/// Returns the origin of the request that is outstanding under the pair that a reply came to, if the gate asks for it.
 fn origin_of_reply<R: Wait, W: Wire, G: Gate>(
     shift: &Shift<'_, R, W, G>,
+    asked: Asked,
     lane: u16,
     port: u16,
     octets: &[u8],
@@ -145,18 +147,19 @@ fn origin_of_reply<R: Wait, W: Wire, G: Gate>(
     requires { lane < shift.now.proxy.now }
 {
     let identifier = *octets.get(1)?;
-    origin_under(shift, lane, Slot { port, identifier })
+    origin_under(shift, asked, lane, Slot { port, identifier })
 }
 
-/// Returns the origin of the request that is outstanding under a pair, if the gate traces.
+/// Returns the origin of the request that is outstanding under a pair, if the gate asks for it.
 fn origin_under<R: Wait, W: Wire, G: Gate>(
     shift: &Shift<'_, R, W, G>,
+    asked: Asked,
     lane: u16,
     slot: Slot,
 ) -> Option<Origin>
     requires { lane < shift.now.proxy.now }
 {
-    if shift.gate.traces() {
+    if asked.origins {
         shift.proxy.origin(shift.rt, lane, slot)
     } else {
         None
@@ -178,7 +181,8 @@ fn step<R: Wait, W: Wire, G: Gate>(
         return false;
     }
     let now = shift.wire.now();
-    tell_standing(shift, lane, now);
+    let asked = shift.gate.asks(lane);
+    tell_standing(shift, asked, lane, now);
     let random = shift.wire.random();
     let secret = home.secret();
     let stepped = shift
@@ -192,7 +196,7 @@ fn step<R: Wait, W: Wire, G: Gate>(
         return follow(shift, lane, home, &stepped);
     };
     tell_first(shift, &stepped.action);
-    let origin = origin_of_sent(shift, lane, &stepped.action);
+    let origin = origin_of_sent(shift, asked, lane, &stepped.action);
     send_home(shift, home, port, &buffers.datagram, origin.as_ref());
     true
 }
@@ -204,25 +208,31 @@ fn tell_first<R, W: Wire, G: Gate>(shift: &Shift<'_, R, W, G>, action: &Action) 
     }
 }
 
-/// Returns the origin of the request that is sent, if the gate traces. A probe has none.
+/// Returns the origin of the request that is sent, if the gate asks for it. A probe has none.
 fn origin_of_sent<R: Wait, W: Wire, G: Gate>(
     shift: &Shift<'_, R, W, G>,
+    asked: Asked,
     lane: u16,
     action: &Action,
 ) -> Option<Origin>
     requires { lane < shift.now.proxy.now }
 {
     match *action {
-        Action::Sent(_, slot) | Action::Resent(_, slot) => origin_under(shift, lane, slot),
+        Action::Sent(_, slot) | Action::Resent(_, slot) => origin_under(shift, asked, lane, slot),
         Action::Probed(_) | Action::WentDown | Action::WentUp | Action::Idle(_) => None,
     }
 }
 
 /// Reports the lane's standing at this moment, if the gate asks for it.
-fn tell_standing<R: Wait, W: Wire, G: Gate>(shift: &Shift<'_, R, W, G>, lane: u16, moment: Moment)
+fn tell_standing<R: Wait, W: Wire, G: Gate>(
+    shift: &Shift<'_, R, W, G>,
+    asked: Asked,
+    lane: u16,
+    moment: Moment,
+)
     requires { lane < shift.now.proxy.now }
 {
-    if shift.gate.asks(lane) {
+    if asked.standing {
         let standing = shift.proxy.standing(shift.rt, lane);
         shift.report(&WorkerReport::Stands { moment, standing });
     }
@@ -266,8 +276,8 @@ fn follow<R: Wait, W: Wire, G: Gate>(
     true
 }
 
-/// Sends a datagram of a request of this origin to the home server, from the socket of a source port. If the home server does not have that port,
-/// since the port is another lane's, for example, nothing is sent.
+/// Sends a datagram of a request of this origin to the home server, from the socket of a source port. If the home server
+/// does not have that port, since the port is another lane's, for example, nothing is sent.
 fn send_home<R, W: Wire, G: Gate>(
     shift: &mut Shift<'_, R, W, G>,
     home: &Home,

@@ -9,7 +9,7 @@ use crate::ledger::Ledger;
 use block_queue::Fifo;
 use rad_auth::{MARK_LENGTH, Reply};
 use rad_lane::{Entry, Outgoing, Record, Sending};
-use rad_rings::{LaneEnd, RecordQueue, Report, Rest};
+use rad_locks::{LaneEnd, RecordQueue, Report, Rest};
 use rad_tables::{Moment, Slot, Slots};
 
 /// The Code of an Accounting-Request (RFC 2866 section 3).

@@ -2,20 +2,21 @@
 
 ghost use Rattle.std.specs.Prelude.{◌≡◌, List, [], ◌∷◌, ◌++◌, Option, None, option_and_then};
 ghost use Rattle.std.specs.Borrow.{ftrue};
-ghost use Rattle.rad_lane.specs.declared.outgoing.Outgoing.{Outgoing};
-ghost use Rattle.rad_desk.specs.HandOver.{kept_with};
+ghost use Rattle.rad_desk.specs.HandOver.{Handing, handed_at, kept_with};
 ghost use Rattle.rad_desk.specs.Leaving.{Left, as_left, left_with};
 
 use crate::leaving::LeftRecord;
+use crate::wire::Wire;
 use rad_lane::{Counts, Outgoing};
 use std::marker::Model;
 
 /// What keeps evidence of the responses that are handed over to it, and of the requests that are left at the end.
 ///
-/// Contracts may see a ledger as the list of the responses that it was given so far, in order, and as that of the
-/// requests that it was told as left. They say nothing of a ledger without such a list.
+/// Contracts may see a ledger as the list of the responses that it was given so far, in order, each with all that had
+/// passed over the wire by then, and as the list of the requests that it was told as left. They say nothing of a ledger
+/// without such a list.
 pub trait Ledger {
-    ghost kept: { Self → Option (List Outgoing) } = { λ _. None };
+    ghost kept: { Self → Option (List Handing) } = { λ _. None };
 
     ghost left: { Self → Option (List Left) } = { λ _. None };
 
@@ -24,10 +25,11 @@ pub trait Ledger {
         ensures { kept self.new ≡ kept self.old }
     {}
 
-    /// Keeps a response, which it is lent. It must not wait for anything. The mark, the last attribute of the sending
-    /// that the response holds, tells which lane the response is of, and the number of its request.
-    fn keep(&mut self, outgoing: &Outgoing)
-        ensures { kept self.new ≡ kept_with (kept self.old) (outgoing.now ∷ []) };
+    /// Keeps a response, which it is lent, before it is sent over the wire. It must not wait for anything. The mark, the
+    /// last attribute of the sending that the response holds, tells which lane the response is of, and the number of its
+    /// request. Only contracts look at the wire.
+    fn keep<W: Wire>(&mut self, outgoing: &Outgoing, wire: &W)
+        ensures { kept self.new ≡ kept_with (kept self.old) (handed_at (W.log wire.now) outgoing.now ∷ []) };
 
     /// Keeps a request that is left, which it is lent. No response comes any more, so it may wait.
     fn leave(&mut self, told: &LeftRecord<'_>)
@@ -49,7 +51,7 @@ pub trait Ledger {
 pub struct NoLedger;
 
 impl Ledger for NoLedger {
-    fn keep(&mut self, _outgoing: &Outgoing) {}
+    fn keep<W: Wire>(&mut self, _outgoing: &Outgoing, _wire: &W) {}
 
     fn leave(&mut self, _told: &LeftRecord<'_>) {}
 }
@@ -66,9 +68,9 @@ impl<L: Ledger> Ledger for Option<L> {
         }
     }
 
-    fn keep(&mut self, outgoing: &Outgoing) {
+    fn keep<W: Wire>(&mut self, outgoing: &Outgoing, wire: &W) {
         if let Some(ledger) = self {
-            ledger.keep(outgoing);
+            ledger.keep(outgoing, wire);
         }
     }
 
@@ -91,10 +93,11 @@ impl<L: Ledger> Ledger for Option<L> {
     }
 }
 
-/// The list of a ledger: all responses that it was given so far. Only clauses see it, and it takes no memory.
+/// The list of a ledger: all responses that it was given so far, each with what had passed over the wire by then. Only
+/// clauses see it, and it takes no memory.
 #[derive(Drop)]
 pub struct Handed {
-    pub ghost responses: { List Outgoing },
+    pub ghost responses: { List Handing },
 }
 
 impl Model for Handed {
@@ -112,16 +115,16 @@ impl Handed {
         Handed {}
     }
 
-    /// Adds a response.
-    pub fn add(&mut self, outgoing: &Outgoing)
-        ensures { self.new.responses ≡ self.old.responses ++ outgoing.now ∷ [] }
+    /// Adds a response that is handed over now.
+    pub fn add<W: Wire>(&mut self, outgoing: &Outgoing, wire: &W)
+        ensures { self.new.responses ≡ self.old.responses ++ handed_at (W.log wire.now) outgoing.now ∷ [] }
     {
-        *self = Handed::with(self, outgoing);
+        *self = Handed::with(self, outgoing, wire);
     }
 
     /// Returns the list with one more response.
-    fn with(_before: &Handed, _outgoing: &Outgoing) -> Handed
-        ensures { result.responses ≡ _before.now.responses ++ _outgoing.now ∷ [] }
+    fn with<W: Wire>(_before: &Handed, _outgoing: &Outgoing, _wire: &W) -> Handed
+        ensures { result.responses ≡ _before.now.responses ++ handed_at (W.log _wire.now) _outgoing.now ∷ [] }
     {
         Handed {}
     }

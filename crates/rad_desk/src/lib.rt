@@ -1,5 +1,5 @@
 //! The workers of the proxy (own): the front, which serves the clients, and a worker for each lane, which serves its
-//! home server. They make the calls of `rad_rings`, whose items are passed on here: [`open`] makes the [`Proxy`], which
+//! home server. They make the calls of `rad_locks`, whose items are passed on here: [`open`] makes the [`Proxy`], which
 //! holds the lanes behind their locks, and an [`Inlet`] for each lane, from which the front takes responses without a
 //! lock.
 //!
@@ -25,12 +25,12 @@ mod told_values;
 mod wire;
 
 pub use front::{front_worker, front_worker_with};
-pub use gate::{Call, Gate, Go, Note, Repeat, UpReason, Worker, WorkerReport};
+pub use gate::{Asked, Call, Gate, Go, Note, Repeat, UpReason, Worker, WorkerReport};
 pub use lanes::lane_worker;
 pub use leaving::{LeftRecord, LeftState, tell_left};
 pub use ledger::{Handed, Ledger, NoLedger};
 pub use marks::count_marks;
-pub use rad_rings::{
+pub use rad_locks::{
     CloseFault, DeskFault, Inlet, LaneEnd, OpenFault, Origin, Proxy, Report, Rest, Session, Spent,
     Standing, Stepped, Told, open,
 };

@@ -8,9 +8,9 @@ ghost use Rattle.rad_desk.specs.Keeping.{Keeps};
 use crate::gate::{Call, Gate, Go, Worker, WorkerReport};
 use crate::tally::Tally;
 use crate::wire::{Delivery, Received, Wire};
+use rad_locks::{Origin, Proxy};
 use rad_packet::Datagram;
 use rad_realms::Endpoint;
-use rad_rings::{Origin, Proxy};
 use std::alloc::Global;
 
 /// What a worker has while it works, but its buffers: what is in them is lent while the rest is used.

@@ -25,6 +25,13 @@ impl<Q: Fifo<Record>> Lane<Q> {
             ..
         } = self;
         free(&mut slots, watch.probe());
-        Leftover::new(setup.lane(), opening, accepted, answered, slots, queued)
+        Leftover {
+            lane: setup.lane(),
+            opening,
+            accepted,
+            answered,
+            outstanding: slots,
+            queued,
+        }
     }
 }

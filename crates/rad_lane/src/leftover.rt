@@ -7,17 +7,17 @@ use std::marker::Model;
 #[derive(Drop)]
 pub struct Leftover<Q: Fifo<Record>> {
     /// The lane's number.
-    lane: u16,
+    pub(crate) lane: u16,
     /// The number of the first request that the book still held.
-    opening: u64,
+    pub(crate) opening: u64,
     /// The stamps of the requests, in order: first those that were sent, then those that are queued.
-    accepted: SlidingList<Stamp>,
+    pub(crate) accepted: SlidingList<Stamp>,
     /// The answers, in order.
-    answered: SlidingList<Answered>,
+    pub(crate) answered: SlidingList<Answered>,
     /// The sendings that are unanswered, each under its pair. There is no probe among them.
-    outstanding: Slots<Entry>,
+    pub(crate) outstanding: Slots<Entry>,
     /// The records of the requests that were never sent, in order.
-    queued: Q,
+    pub(crate) queued: Q,
 }
 
 /// The parts of a [`Leftover`].
@@ -57,28 +57,6 @@ impl<Q: Fifo<Record>> Model for Leftover<Q> {
 impl<Q: Fifo<Record>> Leftover<Q> {
     ghost use Rattle.std.specs.Prelude.{◌≡◌, ◌≤◌, length, map as each};
     ghost use Rattle.rad_lane.specs.Closes.{left_of};
-
-    /// Makes the leftover of a lane of its parts.
-    pub(crate) fn new(
-        lane: u16,
-        opening: u64,
-        accepted: SlidingList<Stamp>,
-        answered: SlidingList<Answered>,
-        outstanding: Slots<Entry>,
-        queued: Q,
-    ) -> Leftover<Q>
-        requires { length (Q.items queued) ≤ length accepted.items }
-        ensures { result ≡ left_of lane opening accepted.items (Q.items queued) answered.items outstanding }
-    {
-        Leftover {
-            lane,
-            opening,
-            accepted,
-            answered,
-            outstanding,
-            queued,
-        }
-    }
 
     /// Returns the lane's number.
     pub fn lane(&self) -> u16

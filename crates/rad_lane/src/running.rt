@@ -78,7 +78,7 @@ pub fn run<Q: Fifo<Record>>(
     let Ok(mut gives) = Vec::with_capacity(alloc, events.len()) else {
         return Err(RunFault::OutOfMemory);
     };
-    look_at(lane);
+    keep_law(lane);
     let mut datagram = Datagram::new();
     for event in events {
         let answer = give(alloc, lane, event, &mut datagram);
@@ -87,15 +87,8 @@ pub fn run<Q: Fifo<Record>>(
             datagram: datagram.copy(),
         });
     }
-    look_at(lane);
+    keep_law(lane);
     Ok(gives)
-}
-
-/// Calls a view of the lane, after which the prover knows that the book is lawful, as its type keeps it.
-fn look_at<Q: Fifo<Record>>(lane: &Lane<Q>)
-    ensures { IsLawful lane.now }
-{
-    let _ = lane.accepted();
 }
 
 /// Makes the call of one event.
@@ -119,4 +112,11 @@ fn give<Q: Fifo<Record>>(
         Event::Drain => GivenAnswer::Drain(lane.drain()),
         Event::Turn(moment) => GivenAnswer::Turn(lane.turn(alloc, *moment)),
     }
+}
+
+/// For the proof: states that the book is lawful, as the lane's type keeps it.
+fn keep_law<Q: Fifo<Record>>(lane: &Lane<Q>)
+    ensures { IsLawful lane.now }
+{
+    let _ = lane.accepted();
 }

@@ -115,6 +115,7 @@ fn realms_of(alloc: Global, realms: &[Realm], lane: u16) -> Result<Series<Octets
     Ok(Series::from_vec(names))
 }
 
+/// Returns whether a lane is this other one, if there is one.
 fn is_same_lane(lane: u16, other: Option<u16>) -> bool
     ensures { result ≡ is_lane lane other }
 {
@@ -149,6 +150,7 @@ fn has_name_at(names: &[Octets], rank: Option<usize>, name: &[u8]) -> bool
     }
 }
 
+/// For the proof: returns whether two names are the same, ignoring the case of ASCII letters.
 fn is_same_name(one: &[u8], other: &[u8]) -> bool
     ensures { result ≡ same_name one.now other.now }
 {

@@ -7,7 +7,7 @@ use Rattle.rad_auth.specs.declared.mark.Mark.{Mark}
 use Rattle.rad_auth.specs.declared.reply.RequestHead.{RequestHead}
 use Rattle.rad_ledger.specs.declared.entry.Entry.{Entry}
 use Rattle.rad_ledger.specs.declared.reason.Reason.{Reason}
-use Rattle.rad_ledger.specs.declared.reason.Reason.TheVariants.{NotEntry, NoPacket, WrongSent, WrongReply, WrongResponse, SerialNotAbove, UnknownLane, RecordTwice, WrongWords}
+use Rattle.rad_ledger.specs.declared.reason.Reason.TheVariants.{NotEntry, NoPacket, WrongSent, WrongReply, WrongResponse, SerialNotAbove, UnknownLane, RecordTwice, WrongWords, WrongSum}
 
 module _ (e : Entry) where
   pub sent_is_none : ¬ IsPacketText e.sent.now → ¬ ArePackets e
@@ -50,6 +50,7 @@ module _ (e : Entry) where
       by_reason (Some UnknownLane) j = j
       by_reason (Some RecordTwice) j = j
       by_reason (Some WrongWords) j = j
+      by_reason (Some WrongSum) j = j
 
       -- what is told of the reply and the response is told of the packets
       pub judged : {E : Type 0} (result : Result (Option Reason) E) → IfOk result (λ wrong. JudgesReply home client (head_of e) e.sent.now e.reply.now e.response.now wrong) → IfOk result (λ wrong. MatchOption wrong (ArePacketsRight e (Some home) client) (λ reason. IsWrongPacket e (Some home) client reason))
@@ -75,3 +76,4 @@ module _ (e : Entry) where
     packets_first UnknownLane w = absurd w
     packets_first RecordTwice w = absurd w
     packets_first WrongWords w = w
+    packets_first WrongSum w = w

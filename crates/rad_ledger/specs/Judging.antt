@@ -8,7 +8,7 @@ use Rattle.rad_auth.specs.declared.mark.Mark.{Mark}
 use Rattle.rad_auth.specs.declared.reply.RequestHead.{RequestHead}
 use Rattle.rad_ledger.specs.declared.entry.Entry.{Entry}
 use Rattle.rad_ledger.specs.declared.reason.Reason.{Reason}
-use Rattle.rad_ledger.specs.declared.reason.Reason.TheVariants.{NotEntry, NoPacket, WrongSent, WrongReply, WrongResponse, SerialNotAbove, UnknownLane, RecordTwice, WrongWords}
+use Rattle.rad_ledger.specs.declared.reason.Reason.TheVariants.{NotEntry, NoPacket, WrongSent, WrongReply, WrongResponse, SerialNotAbove, UnknownLane, RecordTwice, WrongWords, WrongSum}
 
 -- The head of the request, and the mark that it went out with.
 abbrev pub head_of : Entry → RequestHead
@@ -66,6 +66,7 @@ IsWrongPacket e home client SerialNotAbove = ⊥
 IsWrongPacket e home client UnknownLane = ⊥
 IsWrongPacket e home client RecordTwice = ⊥
 IsWrongPacket e home client WrongWords = ⊥
+IsWrongPacket e home client WrongSum = ⊥
 
 -- Of a lane whose next serial is at least this one, where the run names the lane.
 abbrev pub IsInPlace : ℕ → Option ℕ → Type 0
@@ -82,6 +83,7 @@ IsWrong e home client next Twice SerialNotAbove = ArePacketsRight e home client 
 IsWrong e home client next Twice UnknownLane = ArePacketsRight e home client × (next ≡ None)
 IsWrong e home client next Twice RecordTwice = ArePacketsRight e home client × IsInPlace e.serial next × Twice
 IsWrong e home client next Twice WrongWords = ⊥
+IsWrong e home client next Twice WrongSum = ⊥
 
 -- What is wrong first with a reply to what was sent or with a response to the request of this head, where nothing is wrong with what
 -- was sent.
@@ -98,3 +100,4 @@ JudgesReply home client head sent reply response (Some SerialNotAbove) = ⊥
 JudgesReply home client head sent reply response (Some UnknownLane) = ⊥
 JudgesReply home client head sent reply response (Some RecordTwice) = ⊥
 JudgesReply home client head sent reply response (Some WrongWords) = ⊥
+JudgesReply home client head sent reply response (Some WrongSum) = ⊥

@@ -4,7 +4,7 @@ use Rattle.rad_packet.specs.Packet.{IsPacketText, authenticator_of, code_of, ide
 use Rattle.rad_auth.specs.Authenticator.{IsRightRequest}
 use Rattle.rad_ledger.specs.declared.left.Left.{Left}
 use Rattle.rad_ledger.specs.declared.reason.Reason.{Reason}
-use Rattle.rad_ledger.specs.declared.reason.Reason.TheVariants.{NotEntry, NoPacket, WrongSent, WrongReply, WrongResponse, SerialNotAbove, UnknownLane, RecordTwice, WrongWords}
+use Rattle.rad_ledger.specs.declared.reason.Reason.TheVariants.{NotEntry, NoPacket, WrongSent, WrongReply, WrongResponse, SerialNotAbove, UnknownLane, RecordTwice, WrongWords, WrongSum}
 
 -- Its packet is an Accounting-Request with this Identifier and this Authenticator, and right under the client's secret where that is
 -- known.
@@ -31,3 +31,4 @@ IsWronglyLeft left client Named Twice SerialNotAbove = ⊥
 IsWronglyLeft left client Named Twice UnknownLane = IsPacketText left.request.now × HasRequest left client × ¬ Named
 IsWronglyLeft left client Named Twice RecordTwice = IsPacketText left.request.now × HasRequest left client × Named × Twice
 IsWronglyLeft left client Named Twice WrongWords = ⊥
+IsWronglyLeft left client Named Twice WrongSum = ⊥

@@ -2,7 +2,7 @@
 use Rattle.std.specs.Prelude.{ℕ, List, ◌++◌, codes}
 use Rattle.std.specs.Fmt.{decimal}
 use Rattle.rad_ledger.specs.declared.reason.Reason.{Reason}
-use Rattle.rad_ledger.specs.declared.reason.Reason.TheVariants.{NotEntry, NoPacket, WrongSent, WrongReply, WrongResponse, SerialNotAbove, UnknownLane, RecordTwice, WrongWords}
+use Rattle.rad_ledger.specs.declared.reason.Reason.TheVariants.{NotEntry, NoPacket, WrongSent, WrongReply, WrongResponse, SerialNotAbove, UnknownLane, RecordTwice, WrongWords, WrongSum}
 use Rattle.rad_ledger.specs.declared.tally.Gap.{Gap}
 use Rattle.rad_ledger.specs.declared.tally.Verdict.{Verdict}
 use Rattle.rad_ledger.specs.declared.tally.Verdict.TheVariants.{Whole, Open, Missing, Unaccounted, Part, Contradicted}
@@ -17,6 +17,7 @@ reason_text SerialNotAbove = codes "SerialNotAbove"
 reason_text UnknownLane = codes "UnknownLane"
 reason_text RecordTwice = codes "RecordTwice"
 reason_text WrongWords = codes "WrongWords"
+reason_text WrongSum = codes "WrongSum"
 
 abbrev pub gap_text : Gap → List ℕ
 gap_text gap = codes "gap " ++ decimal gap.first ++ codes " to " ++ decimal gap.last

@@ -24,6 +24,8 @@ pub enum Reason {
     RecordTwice,
     /// Its words are not those of the request.
     WrongWords,
+    /// The sum that it has is not that of the lines before it.
+    WrongSum,
 }
 
 impl fmt::Display for Reason {
@@ -43,6 +45,7 @@ impl fmt::Display for Reason {
             Reason::UnknownLane => f.write_str("UnknownLane"),
             Reason::RecordTwice => f.write_str("RecordTwice"),
             Reason::WrongWords => f.write_str("WrongWords"),
+            Reason::WrongSum => f.write_str("WrongSum"),
         }
     }
 }

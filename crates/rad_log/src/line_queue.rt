@@ -1,14 +1,14 @@
 //! Log lines on their way from the threads that log to the one thread that writes them.
 
-use crate::line_room::LineRoom;
+use crate::line_buffer::LineBuffer;
 use crate::line_writer::{LineWriter, line_in};
+use crate::locking::lock_soon;
 use crate::writer_state::WriterState;
 use std::alloc::{AllocError, Global};
 use std::fmt::Display;
-use std::hint::spin_loop;
 use std::mem;
 use std::sync::atomic::{AtomicU64, Ordering};
-use std::sync::{Mutex, MutexGuard, Wait};
+use std::sync::{Mutex, Wait};
 use std::time::{Clock, Duration, Instant};
 
 /// The most octets of lines that may wait.
@@ -17,15 +17,11 @@ const ROOM: usize = 65_536;
 /// The most octets of a line, with its line end.
 const LONGEST: usize = 4096;
 
-/// How many times a thread tries to lock the buffer for a line. Each holder keeps the lock about as long as copying a
-/// line takes.
-const TRIES: u32 = 2000;
-
 /// Lines that wait, in the order in which they came. Until there is a thread that writes them, the thread that logs a
 /// line also writes it.
 #[derive(Drop)]
 pub struct LineQueue {
-    room: Mutex<LineRoom>,
+    room: Mutex<LineBuffer>,
     /// How many lines did not get into the buffer, since they were too long or others held the buffer for too long.
     missed: AtomicU64,
     outlet: Mutex<Outlet>,
@@ -38,7 +34,7 @@ pub struct LineQueue {
 struct Outlet {
     writer: LineWriter,
     /// The lines that are being written.
-    batch: LineRoom,
+    batch: LineBuffer,
 }
 
 impl LineQueue {
@@ -48,8 +44,8 @@ impl LineQueue {
     ///
     /// `AllocError` if memory is refused.
     pub fn new(alloc: Global) -> Result<LineQueue, AllocError> {
-        let room = LineRoom::new(alloc, ROOM)?;
-        let batch = LineRoom::new(alloc, ROOM)?;
+        let room = LineBuffer::new(alloc, ROOM)?;
+        let batch = LineBuffer::new(alloc, ROOM)?;
         let outlet = Outlet {
             writer: LineWriter::new(),
             batch,
@@ -76,7 +72,7 @@ impl LineQueue {
     /// Adds the text of a line, or counts a line as dropped if it has no text or others hold the buffer for too long.
     fn put_text(&self, text: Option<&[u8]>) {
         if let Some(text) = text {
-            if let Some(mut room) = self.hold() {
+            if let Some(mut room) = lock_soon(&self.room) {
                 room.put(text);
                 return;
             }
@@ -84,22 +80,10 @@ impl LineQueue {
         self.missed.fetch_add(1, Ordering::SeqCst);
     }
 
-    /// Locks the buffer, if that succeeds soon.
-    fn hold(&self) -> Option<MutexGuard<'_, LineRoom>> {
-        for _ in 0..TRIES {
-            let room = self.room.try_lock();
-            if room.is_some() {
-                return room;
-            }
-            spin_loop();
-        }
-        None
-    }
-
     /// Writes the lines that wait, if standard error accepts them at once.
     fn write_now(&self) {
         if let Some(mut outlet) = self.outlet.try_lock() {
-            if let Some(mut room) = self.hold() {
+            if let Some(mut room) = lock_soon(&self.room) {
                 outlet.take(&mut room);
             }
             self.write_taken(&mut outlet, false);
@@ -149,7 +133,7 @@ impl LineQueue {
 
 impl Outlet {
     /// Takes the lines of a buffer, which is empty then.
-    fn take(&mut self, room: &mut LineRoom) {
+    fn take(&mut self, room: &mut LineBuffer) {
         self.batch.clear();
         mem::swap(&mut self.batch, room);
     }

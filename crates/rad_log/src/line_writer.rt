@@ -1,6 +1,6 @@
 //! Writing lines to standard error, even if it accepts only a part of them or nothing.
 
-use crate::line_room::LineRoom;
+use crate::line_buffer::LineBuffer;
 use libc::STDERR_FILENO;
 use libc::net::{POLLOUT, poll};
 use libc::types::pollfd;
@@ -54,7 +54,7 @@ impl LineWriter {
 
     /// Writes the lines of a buffer, and then how many were dropped after them. If `is_patient` is set, it waits
     /// while standard error accepts nothing; otherwise the lines are lost.
-    pub fn write(&mut self, room: &LineRoom, is_patient: bool) {
+    pub fn write(&mut self, room: &LineBuffer, is_patient: bool) {
         self.write_all(room.lines(), is_patient);
         self.lost = self.lost.saturating_add(room.dropped());
         self.tell_lost(is_patient);

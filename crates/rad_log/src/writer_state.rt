@@ -5,15 +5,20 @@ use std::sync::Wait;
 use std::sync::atomic::{AtomicU64, Ordering};
 use std::time::{Clock, Duration, Instant};
 
+/// The bit that there may be something to write.
+const WORK: u64 = 1;
+
+/// The bit that nothing more comes.
+const END: u64 = 2;
+
 /// The state that a thread that writes shares with the threads that have something for it.
 #[derive(Drop)]
 pub struct WriterState {
     /// 1 if there is such a thread.
     started: AtomicU64,
-    /// 1 if there may be something to write.
-    pending: AtomicU64,
-    /// 1 if nothing more comes.
-    ended: AtomicU64,
+    /// What the thread is told: `WORK` until it begins a round, and `END` from then on. It is one word, so that no round
+    /// sees the end and not what came before.
+    told: AtomicU64,
     /// 1 if the thread has written everything.
     finished: AtomicU64,
 }
@@ -23,8 +28,7 @@ impl WriterState {
     pub fn new() -> WriterState {
         WriterState {
             started: AtomicU64::new(0),
-            pending: AtomicU64::new(0),
-            ended: AtomicU64::new(0),
+            told: AtomicU64::new(0),
             finished: AtomicU64::new(0),
         }
     }
@@ -41,35 +45,46 @@ impl WriterState {
 
     /// Wakes the thread, since there is something to write. It does not wait for the thread.
     pub fn notify(&self) {
-        if self.pending.swap(1, Ordering::SeqCst) == 0 {
-            self.pending.wake_all();
-        }
+        self.tell(WORK);
     }
 
     /// Makes the thread write what there is and end.
     pub fn end(&self) {
-        self.ended.store(1, Ordering::SeqCst);
-        self.notify();
+        self.tell(WORK | END);
+    }
+
+    fn tell(&self, bits: u64) {
+        if self.told.fetch_or(bits, Ordering::SeqCst) & WORK == 0 {
+            self.told.wake_all();
+        }
     }
 
     /// Begins a round of the thread, and returns whether it is the last one, since nothing more comes. Whatever comes
-    /// after `pending` is cleared wakes the thread again, so nothing is lost in between.
+    /// after that wakes the thread again, so nothing is lost in between.
     pub fn begin_round(&self) -> bool {
-        self.pending.store(0, Ordering::SeqCst);
-        self.ended.load(Ordering::SeqCst) != 0
+        self.told.fetch_and(END, Ordering::SeqCst) & END != 0
+    }
+
+    /// Returns what the thread is told, if that is no work.
+    fn idle(&self) -> Option<u32> {
+        let told = self.told.load(Ordering::SeqCst);
+        if told & WORK != 0 {
+            return None;
+        }
+        u32::try_from(told).ok()
     }
 
     /// Makes the thread sleep until there is something to write.
     pub fn sleep<R: Wait>(&self, rt: &R) {
-        if self.pending.load(Ordering::SeqCst) == 0 {
-            self.pending.park(rt, 0);
+        if let Some(told) = self.idle() {
+            self.told.park(rt, told);
         }
     }
 
     /// Makes the thread sleep for this long, or until there is something to write.
     pub fn sleep_for<R: Clock + Wait>(&self, rt: &R, longest: Duration) {
-        if self.pending.load(Ordering::SeqCst) == 0 {
-            self.pending.park_timeout(rt, 0, longest);
+        if let Some(told) = self.idle() {
+            self.told.park_timeout(rt, told, longest);
         }
     }
 
@@ -82,7 +97,7 @@ impl WriterState {
     /// Returns whether the thread, if there is one, was to end and has not written everything.
     pub fn is_late(&self) -> bool {
         self.is_started()
-            && self.ended.load(Ordering::SeqCst) != 0
+            && self.told.load(Ordering::SeqCst) & END != 0
             && self.finished.load(Ordering::SeqCst) == 0
     }
 

@@ -1,7 +1,7 @@
 -- Samples in Prometheus' text format (own).
-use Rattle.std.specs.Prelude.{ℕ, ◌/◌, ◌%◌, ◌==◌, Bool, false, nat_le, ◌&&◌, not, if◌then◌else◌, List, [], ◌∷◌, ◌++◌, codes, Option, Some, None}
-use Rattle.std.specs.Fmt.{decimal, digits}
-use Rattle.std.specs.List.{flat_map}
+use Rattle.std.specs.Prelude.{ℕ, List, ◌++◌, codes, Option, Some, None}
+use Rattle.std.specs.Fmt.{decimal}
+use Rattle.rad_log.specs.Escaped.{escaped}
 use Rattle.rad_realms.specs.Printed.{address_text, endpoint_text}
 use Rattle.rad_metrics.specs.Buckets.{bound_text}
 use Rattle.rad_metrics.specs.Reasons.{reason_name}
@@ -17,21 +17,13 @@ abbrev pub reason_key : Reason → List ℕ
 reason_key (reason.Repeat why) = codes "repeat"
 reason_key why = codes "reason"
 
--- An octet of a realm's name that is printed as it is: a visible ASCII character other than `%`, `"`, `=` and `\`.
-abbrev pub is_plain : ℕ → Bool
-is_plain o = (nat_le 33 o && nat_le o 126) && (((not (o == 37) && not (o == 34)) && not (o == 61)) && not (o == 92))
-
--- Any other octet is printed as `%` and two hexadecimal digits.
-abbrev pub octet_text : ℕ → List ℕ
-octet_text o = if is_plain o then o ∷ [] else codes "%" ++ digits 16 false (o / 16) ++ digits 16 false (o % 16)
-
--- A label; a lane's are its number and its home server's name.
+-- A label; a lane's are its number and its home server's name. In a realm's name `\` is escaped too.
 abbrev pub label_text : Label → List ℕ
 label_text (label.Version version) = codes "version=\"" ++ version.now ++ codes "\""
 label_text label.Clients = codes "side=\"clients\""
 label_text (label.Client address) = codes "client=\"" ++ address_text address ++ codes "\""
 label_text (label.Home lane home) = codes "lane=\"" ++ decimal lane ++ codes "\",home=\"" ++ home.now ++ codes "\""
-label_text (label.Realm name) = codes "realm=\"" ++ flat_map octet_text name.now ++ codes "\""
+label_text (label.Realm name) = codes "realm=\"" ++ escaped (Some 92) name.now ++ codes "\""
 label_text (label.Reason why) = reason_key why ++ codes "=\"" ++ reason_name why ++ codes "\""
 label_text (label.Bound bucket) = codes "le=\"" ++ bound_text bucket ++ codes "\""
 label_text (label.Port place) = codes "port=\"" ++ decimal place ++ codes "\""

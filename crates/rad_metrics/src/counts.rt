@@ -68,10 +68,7 @@ impl Counts {
 
     /// Returns the word of an event in a row, or 0 if there is no such row.
     pub fn get(&self, row: usize, event: Event) -> u64 {
-        match self.word(row, event) {
-            Some(word) => word.load(Ordering::SeqCst),
-            None => 0,
-        }
+        word_or_0(self.word(row, event))
     }
 
     /// Writes the word of an event in a row, and returns what it was; 0 if there is no such row.
@@ -80,6 +77,14 @@ impl Counts {
             Some(word) => word.swap(value, Ordering::SeqCst),
             None => 0,
         }
+    }
+}
+
+/// Returns what a word holds; 0 if there is no such word.
+pub(crate) fn word_or_0(word: Option<&AtomicU64>) -> u64 {
+    match word {
+        Some(word) => word.load(Ordering::SeqCst),
+        None => 0,
     }
 }
 

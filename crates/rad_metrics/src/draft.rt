@@ -3,8 +3,9 @@
 use crate::home_metric::Reading;
 use crate::ledger_metrics::LedgerReading;
 use crate::numbers::Numbers;
-use crate::own_process::{OwnProcess, ProcessReading, read_process};
-use crate::socket_numbers::{SocketReading, UdpSockets};
+use crate::own_process::{ProcessReading, read_process};
+use crate::socket_numbers::{SocketReading, UDP_TABLE};
+use crate::system_files::{SystemFiles, text_of};
 use crate::writing::{Known, write_metrics};
 use rad_realms::Config;
 use std::alloc::{AllocError, Global};
@@ -44,7 +45,7 @@ impl Draft {
     /// # Errors
     ///
     /// `AllocError` if memory is refused.
-    pub fn read<S: Wait, U: UdpSockets + OwnProcess, R: Clock>(
+    pub fn read<S: Wait, U: SystemFiles, R: Clock>(
         &mut self,
         rt: &S,
         system: &U,
@@ -52,13 +53,13 @@ impl Draft {
     ) -> Result<(), AllocError> {
         self.readings.clear();
         let started = numbers.started_by_now();
-        for home in numbers.homes() {
+        for home in &numbers.homes {
             self.readings.push(home.reading(rt, started))?;
         }
         self.process = read_process(system, &mut self.table);
-        UdpSockets::read(system, &mut self.table);
-        let table = str::from_utf8(self.table.as_slice()).unwrap_or("");
-        numbers.sockets().read(rt, table, &mut self.sockets)
+        system.read(UDP_TABLE, &mut self.table);
+        let table = text_of(&self.table);
+        numbers.sockets.read(rt, table, &mut self.sockets)
     }
 
     /// Makes a text of all metrics, of what was read, and of the ledger if there is one.
@@ -77,9 +78,9 @@ impl Draft {
             clients: config.clients(),
             homes: config.homes(),
             counts: numbers.counts(),
-            cells: numbers.homes(),
+            cells: numbers.homes.as_slice(),
             realms: config.realms(),
-            realm_numbers: numbers.realms(),
+            realm_numbers: &numbers.realms,
             program: numbers.program(self.process),
             readings: self.readings.as_slice(),
             sockets: self.sockets.as_slice(),

@@ -3,7 +3,7 @@
 ghost use Rattle.std.specs.Prelude.{◌≡◌, ◌<◌, ◌≤◌, ◌-◌};
 ghost use Rattle.rad_metrics.specs.Buckets.{bound_of, bound_text};
 
-use crate::counts::atomics;
+use crate::counts::{atomics, word_or_0};
 use std::alloc::{AllocError, Global};
 use std::sync::atomic::{AtomicU64, Ordering};
 
@@ -42,10 +42,7 @@ impl Histogram {
 
     /// Returns how many durations are in a bucket: above the bound of the bucket before it, and not above its own.
     pub(crate) fn get(&self, bucket: usize) -> u64 {
-        match self.counts.get(bucket) {
-            Some(count) => count.load(Ordering::SeqCst),
-            None => 0,
-        }
+        word_or_0(self.counts.get(bucket))
     }
 
     /// Returns the sum of all durations, in microseconds.

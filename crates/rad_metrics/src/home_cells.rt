@@ -26,7 +26,8 @@ pub(crate) struct HomeCell {
     last_answer: AtomicU64,
     /// The limits of its lane.
     limits: LimitNumbers,
-    times: HomeTimes,
+    /// The times of its requests.
+    pub(crate) times: HomeTimes,
     reading: Mutex<Reading>,
 }
 
@@ -97,11 +98,6 @@ impl HomeCell {
     /// Returns whether its worker is to report the standing of its lane.
     pub(crate) fn is_asked(&self) -> bool {
         self.is_asked.load(Ordering::SeqCst)
-    }
-
-    /// Returns the times of its requests.
-    pub(crate) fn times(&self) -> &HomeTimes {
-        &self.times
     }
 
     /// Records what was read of its lane. If the reading before is being read, nothing is recorded, and its worker is asked

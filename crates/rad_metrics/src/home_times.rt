@@ -4,7 +4,7 @@ ghost use Rattle.std.specs.Prelude.{◌≡◌, ◌+◌, ◌*◌, ◌-◌, ◌/�
 ghost use Rattle.rad_metrics.specs.Families.{described_by};
 ghost use Rattle.rad_metrics.specs.Metrics.{timed_family};
 
-use crate::counts::atomics;
+use crate::counts::{atomics, word_or_0};
 use crate::family::{Family, Kind, families};
 use crate::histogram::Histogram;
 use rad_realms::LimitNumbers;
@@ -172,10 +172,7 @@ fn place_by(places: &[AtomicU64], number: u64) -> Option<&AtomicU64> {
 }
 
 fn load(places: &[AtomicU64], slot: Slot) -> u64 {
-    match places.get(place_in(slot)) {
-        Some(place) => place.load(Ordering::SeqCst),
-        None => 0,
-    }
+    word_or_0(places.get(place_in(slot)))
 }
 
 fn store(places: &[AtomicU64], slot: Slot, time: u64) {

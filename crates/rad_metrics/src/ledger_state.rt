@@ -1,5 +1,6 @@
 //! What the thread that writes the ledger shares with the front and with the reporter, and the log lines of the ledger.
 
+use crate::file_sums::{FileSum, FileSums};
 use crate::lane_serials::{LaneSerials, LostSerials};
 use crate::ledger_fault::LedgerFault;
 use crate::ledger_metrics::LedgerReading;
@@ -31,6 +32,8 @@ pub struct LedgerState {
     lost: AtomicU64,
     /// The lanes, in order.
     lanes: Vec<LaneSerials>,
+    /// The sums that are to be logged.
+    sums: FileSums,
     /// The fault that is to be logged, as a number; 0 if there is none.
     fault: AtomicU64,
     /// 1 if it is to be logged that entries are written again.
@@ -56,6 +59,7 @@ impl LedgerState {
     /// `AllocError` if memory is refused.
     pub fn new(alloc: Global, lanes: usize) -> Result<LedgerState, AllocError> {
         let lanes = LaneSerials::of_lanes(alloc, lanes)?;
+        let sums = FileSums::new(alloc)?;
         Ok(LedgerState {
             begun: AtomicU64::new(0),
             put: AtomicU64::new(0),
@@ -65,6 +69,7 @@ impl LedgerState {
             unsynced: AtomicU64::new(0),
             lost: AtomicU64::new(0),
             lanes,
+            sums,
             fault: AtomicU64::new(0),
             is_back: AtomicU64::new(0),
             told: AtomicU64::new(0),
@@ -153,6 +158,11 @@ impl LedgerState {
         }
     }
 
+    /// Tells the sum of the lines of the run, which is to be logged. One thread does.
+    pub fn tell_sum(&self, its: FileSum) {
+        self.sums.tell(its);
+    }
+
     /// Records a fault, which is to be logged. The ledger is not written again before [`LedgerState::goes_on`].
     pub fn fail(&self, fault: LedgerFault) {
         self.is_back.store(0, Ordering::SeqCst);
@@ -215,7 +225,8 @@ impl LedgerState {
         }
     }
 
-    /// Logs what is not logged yet: a fault, that entries are written again, and which ones are lost, or dropped how many.
+    /// Logs what is not logged yet: a fault, that entries are written again, which ones are lost, or dropped how many, and
+    /// sums.
     pub fn tell<L: Log>(&self, log: &L) {
         if let Some(fault) = LedgerFault::of_number(self.fault.swap(0, Ordering::SeqCst)) {
             log_ledger_fault(log, fault);
@@ -228,6 +239,17 @@ impl LedgerState {
         let count = dropped.saturating_sub(self.told.swap(dropped, Ordering::SeqCst));
         if count != 0 {
             tell(log, Level::Error, &LedgerLine::Dropped(count));
+        }
+        self.log_sums(log);
+    }
+
+    /// Logs the sums that are not logged yet.
+    fn log_sums<L: Log>(&self, log: &L) {
+        for _ in 0..u64::MAX {
+            let Some(its) = self.sums.take() else {
+                return;
+            };
+            tell(log, Level::Info, &LedgerLine::File(its));
         }
     }
 
@@ -290,6 +312,8 @@ pub enum LedgerLine {
     Fault(LedgerFault),
     /// Entries are written again.
     Back,
+    /// The sum of the run's lines.
+    File(FileSum),
     /// Entries were written to a file that is gone: of this lane, so many, from this serial to that one.
     Lost(u64, u64, u64, u64),
     /// This many entries found no room.
@@ -311,6 +335,7 @@ impl fmt::Display for LedgerLine {
         match *self {
             LedgerLine::Fault(fault) => write!(f, "event=ledger-fault reason=\"{fault}\""),
             LedgerLine::Back => f.write_str("event=ledger-back"),
+            LedgerLine::File(its) => write!(f, "event=ledger-file {its}"),
             LedgerLine::Dropped(count) => write!(f, "event=ledger-dropped count={count}"),
             LedgerLine::Lost(lane, count, from, to) => {
                 write!(

@@ -22,6 +22,7 @@ mod counts;
 mod draft;
 mod event;
 mod family;
+mod file_sums;
 mod histogram;
 mod home_cells;
 mod home_metric;
@@ -38,6 +39,7 @@ mod realm_numbers;
 mod reason;
 mod sample;
 mod socket_numbers;
+mod system_files;
 mod value;
 mod writing;
 
@@ -46,16 +48,16 @@ pub use counts::Counts;
 pub use draft::Draft;
 pub use event::{Event, report_peer, report_row, worker_row};
 pub use family::{Family, Kind};
+pub use file_sums::FileSum;
 pub use home_metric::{HomeMetric, Reading};
 pub use ledger_fault::{LedgerFault, system_number};
 pub use ledger_metrics::{LedgerMetric, LedgerReading};
 pub use ledger_state::{LedgerState, log_ledger_fault};
-pub use numbers::Numbers;
-pub use own_process::{
-    OwnProcess, ProcessReading, count_own_descriptors, read_own_status, read_own_times,
-};
+pub use numbers::{Numbers, time_since_1970};
+pub use own_process::ProcessReading;
 pub use program_metrics::{ProgramMetric, ProgramReading, VERSION};
 pub use realm_numbers::{RealmNumbers, realm_family};
 pub use reason::Reason;
-pub use socket_numbers::{SocketMetric, SocketReading, UdpSockets, read_udp_sockets};
+pub use socket_numbers::{SocketMetric, SocketReading};
+pub use system_files::{SystemFiles, count_own_descriptors, read_system_file};
 pub use value::Value;

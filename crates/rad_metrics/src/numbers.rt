@@ -3,7 +3,7 @@
 ghost use Rattle.rad_metrics.specs.Times.{IsStartBy};
 
 use crate::counted::Counted;
-use crate::counts::{APART, Counts, atomics};
+use crate::counts::{APART, Counts, atomics, word_or_0};
 use crate::event::{Event, report_peer, report_row};
 use crate::home_cells::{HomeCell, home_cells, is_of_home};
 use crate::own_process::ProcessReading;
@@ -36,13 +36,14 @@ pub struct Numbers<'a, R> {
     counts: Counts,
     /// The number of datagrams that came from senders that are not clients.
     strangers: AtomicU64,
-    realms: RealmNumbers,
+    /// How many requests came for each realm.
+    pub(crate) realms: RealmNumbers,
     /// When the turn of each worker began, in microseconds since the start: the front's, then those of the lanes in order,
     /// `APART` words from one to the next.
     turns: Vec<AtomicU64>,
     /// The home servers, in order.
-    homes: Vec<HomeCell>,
-    sockets: SocketNumbers,
+    pub(crate) homes: Vec<HomeCell>,
+    pub(crate) sockets: SocketNumbers,
 }
 
 impl<'a, R: Clock> Numbers<'a, R> {
@@ -52,7 +53,7 @@ impl<'a, R: Clock> Numbers<'a, R> {
     ///
     /// `AllocError` if memory is refused.
     pub fn new(alloc: Global, rt: &'a R, config: &Config) -> Result<Numbers<'a, R>, AllocError> {
-        let started = time_since_1970(rt);
+        let started = time_since_1970(rt).unwrap_or(0);
         let lanes = config.homes().len();
         let counts = Counts::new(alloc, lanes, config.clients().len())?;
         let turns = lanes.saturating_add(1).saturating_mul(APART);
@@ -101,9 +102,9 @@ impl<'a, R: Clock> Numbers<'a, R> {
         }
     }
 
-    /// Returns the time now, in milliseconds since 1970.
+    /// Returns the time now, in milliseconds since 1970; 0 if there is none.
     pub fn now(&self) -> u64 {
-        time_since_1970(self.rt)
+        time_since_1970(self.rt).unwrap_or(0)
     }
 
     /// Returns what is known of the program now, of whose process the system told this.
@@ -149,10 +150,7 @@ impl<R> Numbers<'_, R> {
 
     /// Returns when the turn of the worker in a row began.
     fn turn(&self, row: usize) -> u64 {
-        match self.turn_word(row) {
-            Some(turn) => turn.load(Ordering::SeqCst),
-            None => 0,
-        }
+        word_or_0(self.turn_word(row))
     }
 
     /// Counts the event of a report of the worker or lane in a row.
@@ -198,24 +196,9 @@ impl<R> Numbers<'_, R> {
         self.sockets.bound(worker, at, buffer);
     }
 
-    /// Returns what is known of the sockets.
-    pub(crate) fn sockets(&self) -> &SocketNumbers {
-        &self.sockets
-    }
-
     /// Returns what is counted.
     pub fn counts(&self) -> &Counts {
         &self.counts
-    }
-
-    /// Returns how many requests came for each realm.
-    pub fn realms(&self) -> &RealmNumbers {
-        &self.realms
-    }
-
-    /// Returns what is known of each home server, in order.
-    pub(crate) fn homes(&self) -> &[HomeCell] {
-        self.homes.as_slice()
     }
 }
 
@@ -245,13 +228,8 @@ fn rows_of(alloc: Global, config: &Config) -> Result<BTreeMap<[u8; 4], usize>, A
     Ok(rows)
 }
 
-/// Returns the time, in milliseconds since 1970; 0 if there is none.
-fn time_since_1970<R: Clock>(rt: &R) -> u64 {
-    let Ok(now) = SystemTime::now(rt) else {
-        return 0;
-    };
-    match now.duration_since(UNIX_EPOCH) {
-        Ok(passed) => u64::try_from(passed.as_millis()).unwrap_or(u64::MAX),
-        Err(_) => 0,
-    }
+/// Returns the time, in milliseconds since 1970, if the clock of the day can be read.
+pub fn time_since_1970<R: Clock>(rt: &R) -> Option<u64> {
+    let passed = SystemTime::now(rt).ok()?.duration_since(UNIX_EPOCH).ok()?;
+    u64::try_from(passed.as_millis()).ok()
 }

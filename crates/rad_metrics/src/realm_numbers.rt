@@ -4,7 +4,7 @@ ghost use Rattle.std.specs.Prelude.{◌≡◌};
 ghost use Rattle.rad_metrics.specs.Families.{described_by};
 ghost use Rattle.rad_metrics.specs.Metrics.{realm_family};
 
-use crate::counts::atomics;
+use crate::counts::{atomics, word_or_0};
 use crate::family::{Family, Kind};
 use rad_realms::{Config, Realm};
 use std::alloc::{AllocError, Global};
@@ -47,10 +47,7 @@ impl RealmNumbers {
 
     /// Returns how many requests came for the realm of this rank among those of a lane; 0 if there is no such one.
     pub fn get(&self, lane: u16, rank: usize) -> u64 {
-        match self.count_of(lane, rank) {
-            Some(count) => count.load(Ordering::SeqCst),
-            None => 0,
-        }
+        word_or_0(self.count_of(lane, rank))
     }
 
     fn count_of(&self, lane: u16, rank: usize) -> Option<&AtomicU64> {

@@ -2,11 +2,12 @@
 //! its name.
 
 ghost use Rattle.std.specs.Prelude.{◌≡◌, ◌++◌};
-ghost use Rattle.rad_metrics.specs.Samples.{reason_key, labels_text, is_plain};
+ghost use Rattle.rad_metrics.specs.Samples.{reason_key, labels_text};
 
 use crate::histogram::bound_label;
 use crate::reason::Reason;
 use crate::value::Value;
+use rad_log::Escaped;
 use rad_realms::{AddressText, Endpoint};
 use std::fmt;
 
@@ -21,7 +22,7 @@ pub enum Label<'a> {
     Client([u8; 4]),
     /// A lane, and its home server's name. These are two labels.
     Home(usize, &'a str),
-    /// A realm, by its name.
+    /// A realm, by its name, which is printed as in a line of the log, and `\` as `%5c` too: so it needs no other escapes.
     Realm(&'a str),
     /// Why, or what is repeated.
     Reason(Reason),
@@ -53,7 +54,10 @@ impl fmt::Display for Label<'_> {
             }
             Label::Home(lane, home) => write!(f, "lane=\"{lane}\",home=\"{home}\""),
             Label::Realm(name) => {
-                let name = RealmName(name.as_bytes());
+                let name = Escaped {
+                    octets: name.as_bytes(),
+                    also: Some(b'\\'),
+                };
                 write!(f, "realm=\"{name}\"")
             }
             Label::Reason(reason) => {
@@ -69,54 +73,6 @@ impl fmt::Display for Label<'_> {
             Label::Socket(at) => write!(f, "socket=\"{at}\""),
         }
     }
-}
-
-/// The octets of a realm's name. They are printed as in the log, and `\` is written as `%5c` too: so the label needs no
-/// escapes.
-#[derive(Clone, Copy)]
-struct RealmName<'a>(&'a [u8]);
-
-/// An octet of a realm's name.
-#[derive(Clone, Copy)]
-struct RealmOctet(u8);
-
-impl fmt::Display for RealmName<'_> {
-    ghost use Rattle.std.specs.Prelude.{Some};
-    ghost use Rattle.std.specs.List.{flat_map};
-    ghost use Rattle.rad_metrics.specs.Samples.{octet_text};
-
-    ghost output = { λ name. Some (flat_map octet_text name.0.now) };
-
-    fn fmt<W: fmt::Write>(&self, f: &mut fmt::Formatter<W>) -> fmt::Result {
-        for octet in self.0 {
-            let octet = RealmOctet(*octet);
-            write!(f, "{octet}")?;
-        }
-        Ok(())
-    }
-}
-
-impl fmt::Display for RealmOctet {
-    ghost use Rattle.std.specs.Prelude.{Some};
-    ghost use Rattle.rad_metrics.specs.Samples.{octet_text};
-
-    ghost output = { λ octet. Some (octet_text octet.0) };
-
-    fn fmt<W: fmt::Write>(&self, f: &mut fmt::Formatter<W>) -> fmt::Result {
-        let octet = self.0;
-        if is_printed(octet) {
-            let plain = char::from(octet);
-            return write!(f, "{plain}");
-        }
-        write!(f, "%{:x}{:x}", octet / 16, octet % 16)
-    }
-}
-
-/// Returns whether an octet is printed as it is: a visible ASCII character other than `%`, `"`, `=` and `\`.
-fn is_printed(octet: u8) -> bool
-    ensures { result ≡ is_plain octet }
-{
-    octet.is_ascii_graphic() && octet != b'%' && octet != b'"' && octet != b'=' && octet != b'\\'
 }
 
 /// Returns the key of a reason's label.

@@ -171,7 +171,7 @@ fn write_times(text: &mut Vec<u8>, timed: Timed, known: &Known<'_>) -> io::Resul
     write!(text, "{family}")?;
     for (lane, (home, cell)) in known.homes.iter().zip(known.cells).enumerate() {
         let owner = Label::Home(lane, home.name());
-        write_histogram(text, family, owner, cell.times().histogram(timed))?;
+        write_histogram(text, family, owner, cell.times.histogram(timed))?;
     }
     Ok(())
 }

@@ -1,5 +1,6 @@
 //! A file's name as it is printed.
 
+use rad_log::Escaped;
 use std::alloc::{AllocError, Global};
 use std::fmt;
 
@@ -28,20 +29,16 @@ impl fmt::Display for FileName {
     fn fmt<W: fmt::Write>(&self, f: &mut fmt::Formatter<W>) -> fmt::Result {
         for character in self.0.chars() {
             if character.is_control() {
-                write_octets(f, character)?;
+                let mut room = [0; 4];
+                let octets = Escaped {
+                    octets: character.encode_utf8(&mut room).as_bytes(),
+                    also: None,
+                };
+                write!(f, "{octets}")?;
             } else {
                 f.write_char(character)?;
             }
         }
         Ok(())
     }
-}
-
-/// Writes each octet of a character as `%` and two hexadecimal digits.
-fn write_octets<W: fmt::Write>(f: &mut fmt::Formatter<W>, character: char) -> fmt::Result {
-    let mut room = [0; 4];
-    for octet in character.encode_utf8(&mut room).as_bytes() {
-        write!(f, "%{:x}{:x}", octet / 16, octet % 16)?;
-    }
-    Ok(())
 }

@@ -1,15 +1,12 @@
 //! What the program needs of the system, and of the machine that it runs on.
 
 use rad_addresses::{LocalAddresses, read_local_addresses};
-use rad_metrics::{
-    OwnProcess, UdpSockets, count_own_descriptors, read_own_status, read_own_times,
-    read_udp_sockets,
-};
+use rad_metrics::{SystemFiles, count_own_descriptors, read_system_file};
 use rad_telemetry::{ReplaceFile, RuntimeFiles, TraceFault, TraceText, read_trace_text};
 use rad_writer::{LedgerDisk, RuntimeDisk};
 use std::alloc::{AllocGlobal, Global};
 use std::fs::{Files, OpenFile};
-use std::io::{self, Write};
+use std::io::{self, Read, Write};
 use std::random::RandomSource;
 use std::rt::Runtime;
 use std::sync::Wait;
@@ -34,7 +31,7 @@ where
 
 /// A machine of which threads read, and on which they write. They write with types that are known in `main`, since nothing
 /// that has its files by way of a bound can be given to a thread.
-pub trait Machine: LocalAddresses + UdpSockets + OwnProcess + TraceText + Sync {
+pub trait Machine: LocalAddresses + SystemFiles + TraceText + Sync {
     /// What replaces the file of the counters.
     type Files: ReplaceFile + Drop + Send + 'static;
 
@@ -61,7 +58,7 @@ impl<R> RuntimeMachine<R> {
 impl<R, F> Machine for RuntimeMachine<R>
 where
     R: Files<File = F> + AllocGlobal + RandomSource + Sync + Copy + Send + 'static,
-    F: Write + OpenFile + Drop + Send + 'static,
+    F: Read + Write + OpenFile + Drop + Send + 'static,
 {
     type Files = RuntimeFiles<R>;
 
@@ -86,28 +83,13 @@ where
     }
 }
 
-impl<R: Files> UdpSockets for RuntimeMachine<R>
+impl<R: Files + AllocGlobal + Copy> SystemFiles for RuntimeMachine<R>
 where
     R::File: Drop,
 {
-    /// Reads the table as [`read_udp_sockets`] does.
-    fn read(&self, table: &mut Vec<u8>) {
-        read_udp_sockets(&self.rt, table);
-    }
-}
-
-impl<R: Files + AllocGlobal + Copy> OwnProcess for RuntimeMachine<R>
-where
-    R::File: Drop,
-{
-    /// Reads the text as [`read_own_status`] does.
-    fn read_status(&self, text: &mut Vec<u8>) {
-        read_own_status(&self.rt, text);
-    }
-
-    /// Reads the text as [`read_own_times`] does.
-    fn read_times(&self, text: &mut Vec<u8>) {
-        read_own_times(&self.rt, text);
+    /// Reads the text as [`read_system_file`] does.
+    fn read(&self, path: &str, text: &mut Vec<u8>) {
+        read_system_file(&self.rt, path, text);
     }
 
     /// Counts them as [`count_own_descriptors`] does.

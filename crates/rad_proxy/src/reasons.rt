@@ -5,9 +5,8 @@ ghost use Rattle.std.specs.Prelude.{◌≡◌, ◌≢◌};
 use rad_advice::{
     UnreadKeys, Warnings, advise_homes, fault_reports, list_warnings, syntax_error, unread_keys,
 };
-use rad_log::{Log, tell_error, tell_reason, tell_warning, warn_of_reason};
+use rad_log::{Escaped, Log, tell_error, tell_reason, tell_warning, warn_of_reason};
 use rad_realms::Config;
-use rad_telemetry::Escaped;
 use std::alloc::Global;
 use std::fmt::{self, Display};
 use std::io::{Error, ErrorKind};
@@ -66,7 +65,10 @@ struct FileLine<'a> {
 
 impl Display for FileLine<'_> {
     fn fmt<W: fmt::Write>(&self, f: &mut fmt::Formatter<W>) -> fmt::Result {
-        let path = Escaped(self.path.as_bytes());
+        let path = Escaped {
+            octets: self.path.as_bytes(),
+            also: None,
+        };
         let reason = FileReason::of(self.error.kind());
         write!(f, "event=file-fault file={path} reason=\"{reason}")?;
         if reason == FileReason::System {

@@ -12,8 +12,8 @@ use rad_log::{ErrorLines, Log, Logged, ToldStream, open_each_level, open_log, te
 use rad_realms::Config;
 use rad_server::{Descriptors, ServeFault, Streams, run_with};
 use rad_telemetry::{
-    CounterFile, CounterTexts, LedgerState, StopFlag, Telemetry, TraceFile, Tracer,
-    find_counter_file, find_trace_file, log_fault, report, start_texts,
+    CounterTexts, LedgerState, StopFlag, Telemetry, Tracer, find_counter_file, find_trace_file,
+    log_fault, report, start_texts,
 };
 use rad_writer::{LedgerInlet, OpenedLedger, find_folder, open_ledger, start_writer};
 use std::alloc::{AllocError, Global};
@@ -71,7 +71,7 @@ pub fn serve_file<H: Host + Net, M: Machine>(
         telemetry: &telemetry,
         texts: &texts,
         is_reported: file.is_some(),
-        trace: trace.as_ref(),
+        trace: trace.as_deref(),
     };
     service.start_writers(file)?;
     let outcome = match service.start_ledger() {
@@ -110,7 +110,7 @@ struct Service<'a, H, M> {
     /// Whether the texts of the counters go to a file.
     is_reported: bool,
     /// The file that names what is traced, if there may be one.
-    trace: Option<&'a TraceFile>,
+    trace: Option<&'a str>,
 }
 
 impl<H, M> Clone for Service<'_, H, M> {
@@ -123,7 +123,7 @@ impl<H, M> Copy for Service<'_, H, M> {}
 
 impl<'a, H: Host + Net, M: Machine> Service<'a, H, M> {
     /// Starts the threads that write the log and the file of the counters, if there is one.
-    fn start_writers(self, file: Option<CounterFile>) -> Result<(), Fault> {
+    fn start_writers(self, file: Option<String>) -> Result<(), Fault> {
         if let Some(file) = file
             && !start_texts(self.rt, self.alloc, self.texts, file, self.machine.files())
         {

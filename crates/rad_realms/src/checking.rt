@@ -341,13 +341,6 @@ pub fn realm_of_packet<'a>(packet: &PacketRef<'a>) -> Option<&'a [u8]>
     realm_of_name(user_name_of(packet))
 }
 
-/// Returns the realm of a User-Name, if there is one. Looks at each octet once at most.
-fn realm_of_name<'a>(name: Option<&'a [u8]>) -> Option<&'a [u8]>
-    ensures { option_copied result ≡ option_and_then realm_in (option_copied name.entry) }
-{
-    realm_of(name?)
-}
-
 /// Returns the User-Name of a packet without a Message-Authenticator, if it has one. Looks at each attribute once at
 /// most.
 ///
@@ -381,4 +374,11 @@ pub fn user_name_of<'a>(packet: &PacketRef<'a>) -> Option<&'a [u8]>
         }
     }
     None
+}
+
+/// For the proof: returns the realm of a User-Name, if there is one. Looks at each octet once at most.
+fn realm_of_name<'a>(name: Option<&'a [u8]>) -> Option<&'a [u8]>
+    ensures { option_copied result ≡ option_and_then realm_in (option_copied name.entry) }
+{
+    realm_of(name?)
 }

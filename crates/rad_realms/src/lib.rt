@@ -13,8 +13,8 @@ pub use checking::{
 };
 pub use laws::taken_or_dropped_once;
 pub use rad_config::{
-    AddressText, Client, Config, ConfigFault, DEFAULT_LIMITS, Endpoint, Home, Key, LimitFault,
-    LimitNumbers, Limits, Part, Realm, Spot, addresses_have_one_text,
+    AddressText, Client, Config, ConfigFault, DEFAULT_LIMITS, Destination, Endpoint, Home, Key,
+    LimitFault, LimitNumbers, Limits, Part, Realm, Spot, addresses_have_one_text,
     configurations_are_well_formed, endpoints_have_one_text, list_faults, no_fault_in_range,
     numbers_have_one_text, read_address, read_config, realm_follows_the_last_sign,
 };

@@ -4,7 +4,7 @@
 use crate::beginning::Beginnings;
 use crate::notifying::Notifiers;
 use crate::ring_level::RingLevel;
-use rad_desk::{Call, Gate, Go, UpReason, Worker, WorkerReport};
+use rad_desk::{Asked, Call, Gate, Go, UpReason, Worker, WorkerReport};
 use rad_realms::Home;
 use std::alloc::{AllocError, Global};
 use std::sync::atomic::{AtomicBool, Ordering};
@@ -176,12 +176,8 @@ impl<G: Gate> Gate for Supervisor<'_, G> {
         self.outer.after(worker, call);
     }
 
-    fn asks(&self, lane: u16) -> bool {
+    fn asks(&self, lane: u16) -> Asked {
         self.outer.asks(lane)
-    }
-
-    fn traces(&self) -> bool {
-        self.outer.traces()
     }
 
     /// Does what an event asks for, and passes the report on.

@@ -39,7 +39,7 @@ impl<R: Wait, G: Gate> Service<'_, R, G> {
     )
         requires { IsSome (W.log wire.old) }
         ensures works { Passes (WorksInFront self.entry.config.now inlets.old inlets.new) (W.log wire.old) (W.log wire.new) }
-        ensures hands_over { Passes (HandsOver self.entry.config.now inlets.old inlets.new (L.kept ledger.old) (L.kept ledger.new)) (W.log wire.old) (W.log wire.new) }
+        ensures hands_over { Passes (HandsOver self.entry.config.now inlets.old inlets.new (W.log wire.old) (L.kept ledger.old) (L.kept ledger.new)) (W.log wire.old) (W.log wire.new) }
     {
         self.supervisor.begin(self.rt);
         let _ = front_worker_with(

@@ -1,16 +1,23 @@
-//! The file that the counters are written to, and how it is replaced.
+//! The file that the counters are written to, how it is replaced, and how a text of them gets to the thread that writes it.
 
-use rad_log::{Log, warn_of_reason};
-use std::alloc::{AllocError, AllocGlobal};
-use std::env::{self, Env, VarError};
+use rad_log::{Log, WriterState, find_path, warn_of_reason};
+use std::alloc::{AllocError, AllocGlobal, Global};
+use std::env::Env;
 use std::fmt::{self, Display};
 use std::fs::{self, Files, Metadata, OpenFile, OpenOptions, Permissions};
 use std::io::{self, ErrorKind, Read, Write};
+use std::mem;
 use std::os::unix::fs::{MetadataExt, OpenOptionsExt, PermissionsExt};
 use std::random::RandomSource;
+use std::sync::{Arc, Mutex, Wait};
+use std::thread::{self, Threads};
+use std::time::{Clock, Duration, Instant};
 
 /// The environment variable that names the file of the counters.
 const COUNTERS: &str = "RAD_PROXY_COUNTERS";
+
+/// The event of a fault.
+const FAULT: &str = "counters-fault";
 
 /// How each text of counters begins, whichever program of this kind wrote it. A file of counters is known by it.
 const HEAD: &[u8] = b"# HELP rad_proxy_";
@@ -71,12 +78,6 @@ impl FileId {
             inode: found.ino(),
         }
     }
-}
-
-/// The file that holds the text of the counters.
-#[derive(Drop)]
-pub struct CounterFile {
-    path: String,
 }
 
 impl<R> RuntimeFiles<R> {
@@ -175,22 +176,6 @@ fn write<F: OpenFile + Write>(file: &mut F, text: &[u8]) -> io::Result<FileId> {
     Ok(FileId::of(&file.metadata()?))
 }
 
-impl CounterFile {
-    /// Makes the file of the counters from its path.
-    pub fn new(path: String) -> CounterFile {
-        CounterFile { path }
-    }
-
-    /// Replaces the file by one with this text.
-    ///
-    /// # Errors
-    ///
-    /// Those of [`ReplaceFile::replace`].
-    pub fn replace<F: ReplaceFile>(&self, files: &mut F, text: &[u8]) -> Result<(), FileFault> {
-        files.replace(self.path.as_str(), text)
-    }
-}
-
 impl Display for FileFault {
     ghost use Rattle.std.specs.Prelude.{Some};
     ghost use Rattle.rad_telemetry.specs.FileFaults.{fault_words};
@@ -214,24 +199,152 @@ impl Display for FileFault {
 /// # Errors
 ///
 /// `AllocError` if memory is refused.
-pub fn find_counter_file<R, L>(rt: &R, log: &L) -> Result<Option<CounterFile>, AllocError>
-where
-    R: Env + AllocGlobal,
-    L: Log,
-{
-    match env::var(rt, COUNTERS) {
-        Ok(path) if path.is_empty() => Ok(None),
-        Ok(path) => Ok(Some(CounterFile::new(path))),
-        Err(VarError::NotPresent) => Ok(None),
-        Err(VarError::OutOfMemory) => Err(AllocError),
-        Err(VarError::NotUnicode) => {
-            log_fault(log, FileFault::NoText);
-            Ok(None)
-        }
-    }
+pub fn find_counter_file<R: Env + AllocGlobal, L: Log>(
+    rt: &R,
+    log: &L,
+) -> Result<Option<String>, AllocError> {
+    find_path(rt, COUNTERS, log, FAULT, &FileFault::NoText)
 }
 
 /// Logs that the counters are not written, and why.
 pub fn log_fault<L: Log>(log: &L, fault: FileFault) {
-    warn_of_reason(log, "counters-fault", &fault);
+    warn_of_reason(log, FAULT, &fault);
+}
+
+/// Texts for a file that a thread of its own replaces, so that no other thread waits for a file system. If that
+/// thread can't keep up, it writes only the newest text.
+#[derive(Drop)]
+pub struct CounterTexts {
+    next: Mutex<NextText>,
+    state: WriterState,
+}
+
+/// The text to be written next, and the result of the last one.
+#[derive(Drop)]
+struct NextText {
+    text: Vec<u8>,
+    is_new: bool,
+    fault: Option<FileFault>,
+    /// Whether that fault was returned.
+    is_told: bool,
+}
+
+impl CounterTexts {
+    /// Makes a value that has no text yet.
+    pub fn new(alloc: Global) -> CounterTexts {
+        CounterTexts {
+            next: Mutex::new(NextText {
+                text: Vec::new(alloc),
+                is_new: false,
+                fault: None,
+                is_told: false,
+            }),
+            state: WriterState::new(),
+        }
+    }
+
+    /// Leaves a text to the thread. If the thread has not taken the last one, this replaces it, which is the fault
+    /// `Late`. `text` gets the memory of an earlier text.
+    pub fn leave<R: Wait>(&self, rt: &R, text: &mut Vec<u8>) {
+        self.next.lock(rt).set(text);
+        self.state.notify();
+    }
+
+    /// Returns why the last text was not written, if it was not and this was not returned before.
+    pub fn take_fault<R: Wait>(&self, rt: &R) -> Option<FileFault> {
+        self.next.lock(rt).take_fault()
+    }
+
+    /// Writes the texts to a file as they come, until the last one is written. The thread does nothing else.
+    pub fn write_all<R: Wait, F: ReplaceFile + Drop>(
+        &self,
+        rt: &R,
+        alloc: Global,
+        path: &str,
+        mut files: F,
+    ) {
+        let mut text = Vec::new(alloc);
+        for _ in rt.forever() {
+            let is_last = self.state.begin_round();
+            if self.next.lock(rt).take(&mut text) {
+                let outcome = files.replace(path, text.as_slice());
+                self.next.lock(rt).set_fault(outcome.err());
+            }
+            if is_last {
+                self.state.finish();
+                return;
+            }
+            self.state.sleep(rt);
+        }
+    }
+
+    /// Makes the thread write the last text and end.
+    pub fn end(&self) {
+        self.state.end();
+    }
+
+    /// Waits until the thread, if there is one, has written the last text, at most until `longest` after `start`.
+    pub fn wait<R: Clock + Wait>(&self, rt: &R, start: Option<Instant>, longest: Duration) {
+        self.state.wait(rt, start, longest);
+    }
+}
+
+/// Starts a thread that writes the texts to a file, and returns whether that succeeded. No thread joins it: it ends
+/// with the program.
+pub fn start_texts<R, F>(
+    rt: &R,
+    alloc: Global,
+    texts: &Arc<CounterTexts>,
+    path: String,
+    files: F,
+) -> bool
+where
+    R: Threads + Wait + Copy + Send + 'static,
+    F: ReplaceFile + Drop + Send + 'static,
+{
+    let Ok(texts) = Arc::try_clone(texts) else {
+        return false;
+    };
+    let own = *rt;
+    texts.state.start();
+    thread::spawn(
+        rt,
+        move || texts.write_all(&own, alloc, path.as_str(), files),
+    )
+    .is_ok()
+}
+
+impl NextText {
+    fn set(&mut self, text: &mut Vec<u8>) {
+        if self.is_new {
+            self.set_fault(Some(FileFault::Late));
+        }
+        mem::swap(&mut self.text, text);
+        self.is_new = true;
+    }
+
+    /// Takes the text, and returns whether there was one.
+    fn take(&mut self, text: &mut Vec<u8>) -> bool {
+        let is_new = self.is_new;
+        if is_new {
+            mem::swap(&mut self.text, text);
+            self.is_new = false;
+        }
+        is_new
+    }
+
+    fn set_fault(&mut self, fault: Option<FileFault>) {
+        if self.fault != fault {
+            self.fault = fault;
+            self.is_told = false;
+        }
+    }
+
+    fn take_fault(&mut self) -> Option<FileFault> {
+        if self.is_told {
+            return None;
+        }
+        self.is_told = true;
+        self.fault
+    }
 }

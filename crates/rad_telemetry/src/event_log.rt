@@ -2,17 +2,13 @@
 
 use crate::lines::{ClientText, CutLine, PeerText, UpLine};
 use crate::packet_words::{DatagramWords, KeyWord, WordsOf};
-use crate::tracer::Tracer;
+use crate::tracer::{Tracer, subject_of_packet};
 use crate::workers::worker_name;
 use rad_desk::{Origin, Session, Spent, Worker, WorkerReport};
-use rad_lane::session_of;
-use rad_log::{Level, Log, tell, warn_of_reason};
-use rad_metrics::{Reason, report_row, worker_row};
-use rad_packet::read;
+use rad_log::{Level, Log, tell};
+use rad_metrics::{Reason, report_row};
 use rad_realms::{Config, Endpoint};
 use std::fmt::{self, Display};
-use std::io::Error;
-use std::net::Ipv4Addr;
 
 /// Logs at once what the workers of a configuration report: rare events at `error`, `warn` or `info`; each drop, refusal,
 /// fault and cut at `debug`; each datagram, accepted or repeated request, answer and returned response at `trace`. What is
@@ -58,7 +54,7 @@ impl<'a, L> EventLog<'a, L> {
     /// Returns the log of lines about what is traced under a number.
     fn traced(&self, place: usize) -> EventLog<'a, L> {
         EventLog {
-            log: self.tracer.log(),
+            log: &self.tracer.log,
             config: self.config,
             tracer: self.tracer,
             trace: Some(place),
@@ -70,13 +66,6 @@ impl<L: Log> EventLog<'_, L> {
     fn tell<D: Display>(&self, level: Level, line: &D) {
         let trace = TraceWord(self.trace);
         tell(self.log, level, &format_args!("{line}{trace}"));
-    }
-
-    /// Logs that a worker ended by itself.
-    pub(crate) fn ended(&self, worker: Worker) {
-        let name = worker_name(self.config, worker_row(worker));
-        let line = format_args!("event=stopped worker={name} reason=\"ended by itself\"");
-        self.tell(Level::Error, &line);
     }
 
     /// Logs what a worker reports, if it is logged at once.
@@ -114,10 +103,11 @@ impl<L: Log> EventLog<'_, L> {
             WorkerReport::Took {
                 serial,
                 number,
+                client,
                 sent,
                 ..
             } => {
-                let words = RequestWords(Some(number), session_in(sent));
+                let words = RequestWords(Some(number), subject_of_packet(client, sent).session);
                 self.serial("returned", name, serial, words);
             }
             WorkerReport::WentDown(Some(spent)) => self.went_down(name, spent),
@@ -209,26 +199,6 @@ impl<L: Log> EventLog<'_, L> {
         let line = format_args!("event={event} {client}{words} reason=\"{reason}\"");
         self.tell(Level::Debug, &line);
     }
-
-    /// Logs that there can be no socket at this address and port, with the system's error.
-    pub(crate) fn unbound(&self, at: Endpoint, error: &Error) {
-        let line = format_args!("event=unbound socket={at} reason=\"{error}\"");
-        self.tell(Level::Error, &line);
-    }
-
-    /// Logs that the addresses of this machine can't be read.
-    pub(crate) fn addresses_unread(&self, error: &Error) {
-        warn_of_reason(self.log, "addresses-unread", error);
-    }
-
-    /// Logs that no socket is bound to this address of this machine alone.
-    pub(crate) fn address_unbound(&self, address: [u8; 4]) {
-        let address = Ipv4Addr::from(address);
-        self.tell(
-            Level::Warn,
-            &format_args!("event=address-unbound address={address}"),
-        );
-    }
 }
 
 /// Returns the words of a request of this origin, if that is known.
@@ -239,14 +209,6 @@ fn words_of_origin(origin: Option<&Origin>) -> RequestWords<'_> {
             origin.session.as_ref().map(Session::octets),
         ),
         None => RequestWords(None, None),
-    }
-}
-
-/// Returns the session of a packet, if it has one.
-fn session_in(octets: &[u8]) -> Option<&[u8]> {
-    match read(octets) {
-        Ok(packet) => session_of(&packet),
-        Err(_) => None,
     }
 }
 

@@ -2,14 +2,11 @@
 
 use crate::packet_words::KeyWord;
 use rad_desk::Session;
+use rad_log::lock_soon;
 use rad_packet::read;
 use rad_realms::realm_of_packet;
 use std::fmt::{self, Display};
-use std::hint::spin_loop;
 use std::sync::Mutex;
-
-/// How many times a thread that logs the realm tries its lock. The front holds the lock only for some steps.
-const TRIES: u32 = 2000;
 
 /// The realm of the last packet that was dropped since its realm leads to no lane, if it had one. The front keeps it, and
 /// takes no memory for it. While another thread logs it, the front does not wait, and does not keep the realm of its packet.
@@ -40,13 +37,9 @@ impl LastRealm {
 
 impl Display for LastRealm {
     fn fmt<W: fmt::Write>(&self, f: &mut fmt::Formatter<W>) -> fmt::Result {
-        for _ in 0..TRIES {
-            if let Some(realm) = self.realm.try_lock() {
-                let realm = realm.as_ref().map(Session::octets);
-                return KeyWord("realm", realm).fmt(f);
-            }
-            spin_loop();
+        match lock_soon(&self.realm) {
+            Some(realm) => KeyWord("realm", realm.as_ref().map(Session::octets)).fmt(f),
+            None => Ok(()),
         }
-        Ok(())
     }
 }

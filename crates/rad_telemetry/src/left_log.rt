@@ -6,7 +6,7 @@ use crate::event_log::EventLog;
 use crate::lines::{ClientText, OthersLine, state_word};
 use crate::packet_words::KeyWord;
 use crate::workers::worker_name;
-use rad_desk::{Ledger, LeftRecord, Worker, status_of};
+use rad_desk::{Ledger, LeftRecord, Wire, Worker, status_of};
 use rad_lane::{Counts, Outgoing, session_of};
 use rad_log::{Level, Log, tell, tell_reason};
 use rad_metrics::worker_row;
@@ -39,8 +39,8 @@ impl<L: Log, K: Ledger + Drop> Ledger for LeftLog<'_, L, K> {
         self.ledger.begin();
     }
 
-    fn keep(&mut self, outgoing: &Outgoing) {
-        self.ledger.keep(outgoing);
+    fn keep<W: Wire>(&mut self, outgoing: &Outgoing, wire: &W) {
+        self.ledger.keep(outgoing, wire);
     }
 
     fn leave(&mut self, told: &LeftRecord<'_>) {

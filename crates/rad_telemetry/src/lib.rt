@@ -12,7 +12,6 @@
 #![tactic(auto)]
 
 mod counter_file;
-mod counter_texts;
 mod event_log;
 mod last_realm;
 mod left_log;
@@ -27,13 +26,12 @@ mod tracer;
 mod workers;
 
 pub use counter_file::{
-    CounterFile, FileFault, ReplaceFile, RuntimeFiles, find_counter_file, log_fault,
+    CounterTexts, FileFault, ReplaceFile, RuntimeFiles, find_counter_file, log_fault, start_texts,
 };
-pub use counter_texts::{CounterTexts, start_texts};
 pub use left_log::LeftLog;
-pub use packet_words::{Escaped, PacketWords};
-pub use rad_metrics::{LedgerFault, LedgerState, log_ledger_fault, system_number};
+pub use packet_words::PacketWords;
+pub use rad_metrics::{FileSum, LedgerFault, LedgerState, log_ledger_fault, system_number};
 pub use reporter::{Reporter, StopFlag, report};
 pub use telemetry::Telemetry;
-pub use trace_file::{TraceFault, TraceFile, TraceText, find_trace_file, read_trace_text};
+pub use trace_file::{TraceFault, TraceText, find_trace_file, read_trace_text};
 pub use tracer::{Subject, Tracer, Wanted};

@@ -6,6 +6,7 @@ ghost use Rattle.rad_realms.specs.Realm.{realm_of_packet as the_realm};
 ghost use Rattle.rad_lane.specs.Session.{session_id};
 
 use rad_lane::session_of;
+use rad_log::Escaped;
 use rad_packet::{PacketRef, read};
 use rad_realms::realm_of_packet;
 use std::fmt;
@@ -31,11 +32,6 @@ pub struct WordsOf<'a>(pub &'a [u8]);
 /// A key and its text, with a space before them, if there is such a text.
 #[derive(Clone, Copy)]
 pub struct KeyWord<'a>(pub &'static str, pub Option<&'a [u8]>);
-
-/// The octets of a text as a log line has them. Printable ASCII is unchanged, except for spaces, `%`, `"` and `=`.
-/// These and all other octets are written as `%` and two hexadecimal digits.
-#[derive(Clone, Copy)]
-pub struct Escaped<'a>(pub &'a [u8]);
 
 impl<'a> PacketWords<'a> {
     /// Returns the words of a packet.
@@ -68,7 +64,10 @@ impl fmt::Display for KeyWord<'_> {
         let KeyWord(key, Some(text)) = *self else {
             return Ok(());
         };
-        let text = Escaped(text);
+        let text = Escaped {
+            octets: text,
+            also: None,
+        };
         write!(f, " {key}={text}")
     }
 }
@@ -100,18 +99,4 @@ fn write_packet<W: fmt::Write>(f: &mut fmt::Formatter<W>, packet: &PacketRef<'_>
     let length = packet.octets().len();
     let words = PacketWords::of(packet);
     write!(f, "code={code} length={length}{words}")
-}
-
-impl fmt::Display for Escaped<'_> {
-    fn fmt<W: fmt::Write>(&self, f: &mut fmt::Formatter<W>) -> fmt::Result {
-        for octet in self.0 {
-            match *octet {
-                b'%' | b'"' | b'=' | 0..=32 | 127..=255 => {
-                    write!(f, "%{:x}{:x}", octet / 16, octet % 16)?;
-                }
-                plain => f.write_char(char::from(plain))?,
-            }
-        }
-        Ok(())
-    }
 }

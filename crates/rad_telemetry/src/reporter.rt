@@ -1,15 +1,14 @@
 //! The reports of a separate thread, once a second: what was counted since the last one as log lines, and all
 //! counters for a file.
 
-use crate::counter_file::log_fault;
-use crate::counter_texts::CounterTexts;
+use crate::counter_file::{CounterTexts, log_fault};
 use crate::sums::Sums;
-use crate::trace_file::{TraceFile, TraceLook, TraceText};
+use crate::trace_file::{TraceLook, TraceText};
 use crate::tracer::Tracer;
 use rad_log::{Log, wait_until_set};
-use rad_metrics::{Draft, LedgerState, Numbers, OwnProcess, UdpSockets};
+use rad_metrics::{Draft, LedgerState, Numbers, SystemFiles};
 use rad_realms::Config;
-use std::alloc::{AllocError, Global};
+use std::alloc::Global;
 use std::io;
 use std::sync::atomic::{AtomicU64, Ordering};
 use std::sync::{Wait, WaitMethods};
@@ -53,6 +52,7 @@ impl StopFlag {
 }
 
 /// What is reported, and where it goes.
+#[derive(Drop)]
 pub struct Reporter<'a, L, R> {
     pub(crate) config: &'a Config,
     pub(crate) numbers: &'a Numbers<'a, R>,
@@ -60,20 +60,12 @@ pub struct Reporter<'a, L, R> {
     pub(crate) log: &'a L,
     pub(crate) tracer: &'a Tracer<L>,
     /// The file that names what is traced, if there may be one.
-    pub(crate) trace: Option<&'a TraceFile>,
+    pub(crate) trace: Option<&'a str>,
     /// What takes the texts of the counters, if they go to a file.
     pub(crate) texts: Option<&'a CounterTexts>,
     /// The ledger, if there is one.
     pub(crate) ledger: Option<&'a LedgerState>,
 }
-
-impl<L, R> Clone for Reporter<'_, L, R> {
-    fn clone(&self) -> Result<Self, AllocError> {
-        Ok(*self)
-    }
-}
-
-impl<L, R> Copy for Reporter<'_, L, R> {}
 
 impl<'a, L, R> Reporter<'a, L, R> {
     /// Makes a reporter that reports on this ledger too, if there is one.
@@ -82,7 +74,7 @@ impl<'a, L, R> Reporter<'a, L, R> {
     }
 
     /// Makes a reporter that also looks at this file for what is to be traced, if there is one.
-    pub fn with_trace(self, trace: Option<&'a TraceFile>) -> Reporter<'a, L, R> {
+    pub fn with_trace(self, trace: Option<&'a str>) -> Reporter<'a, L, R> {
         Reporter { trace, ..self }
     }
 }
@@ -99,13 +91,13 @@ pub fn report<R, U, L>(
 )
 where
     R: Clock + Wait,
-    U: UdpSockets + OwnProcess + TraceText,
+    U: SystemFiles + TraceText,
     L: Log,
 {
     let mut draft = Draft::new(alloc);
     let mut look = TraceLook::new(alloc);
     for _ in rt.forever() {
-        if report_once(rt, system, reporter, stop, &mut draft, &mut look) {
+        if report_once(rt, system, &reporter, stop, &mut draft, &mut look) {
             return;
         }
         stop.wait(rt, PERIOD - ASKED);
@@ -116,14 +108,14 @@ where
 fn report_once<R, U, L>(
     rt: &R,
     system: &U,
-    reporter: Reporter<'_, L, R>,
+    reporter: &Reporter<'_, L, R>,
     stop: &StopFlag,
     draft: &mut Draft,
     look: &mut TraceLook,
 ) -> bool
 where
     R: Clock + Wait,
-    U: UdpSockets + OwnProcess + TraceText,
+    U: SystemFiles + TraceText,
     L: Log,
 {
     let is_last = stop.is_set();
@@ -148,8 +140,8 @@ impl<L: Log, R> Reporter<'_, L, R> {
 
     /// Looks at the file that names what is traced, if there may be one.
     fn look<W: Wait, S: TraceText>(&self, rt: &W, source: &S, look: &mut TraceLook) {
-        if let Some(file) = self.trace {
-            look.look(rt, source, file, self.tracer, self.log);
+        if let Some(path) = self.trace {
+            look.look(rt, source, path, self.tracer, self.log);
         }
     }
 
@@ -166,12 +158,7 @@ impl<L: Log, R> Reporter<'_, L, R> {
 impl<L: Log, R: Clock> Reporter<'_, L, R> {
     /// Leaves a text of all numbers to the thread that writes it to their file, if there is one. It also logs, once,
     /// why an earlier text was not written.
-    fn leave_text<S: Wait, U: UdpSockets + OwnProcess>(
-        &self,
-        rt: &S,
-        system: &U,
-        draft: &mut Draft,
-    ) {
+    fn leave_text<S: Wait, U: SystemFiles>(&self, rt: &S, system: &U, draft: &mut Draft) {
         let Some(texts) = self.texts else {
             return;
         };

@@ -141,13 +141,6 @@ fn level_of(sum: Sum) -> Level {
     }
 }
 
-/// Returns how much a count rose.
-fn since(before: u64, now: u64) -> u64
-    ensures { result ≡ now - before }
-{
-    now.saturating_sub(before)
-}
-
 /// Returns the word of an endpoint: its address, followed by its port.
 fn word_of(endpoint: Endpoint) -> u64 {
     let [a, b, c, d] = endpoint.address;
@@ -162,4 +155,11 @@ fn endpoint_of(word: u64) -> Endpoint {
         address: [a, b, c, d],
         port: u16::from_be_bytes([high, low]),
     }
+}
+
+/// For the proof: returns how much a count rose.
+fn since(before: u64, now: u64) -> u64
+    ensures { result ≡ now - before }
+{
+    now.saturating_sub(before)
 }

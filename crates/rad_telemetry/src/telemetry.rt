@@ -2,15 +2,16 @@
 
 ghost use Rattle.std.specs.Prelude.{◌≡◌};
 
-use crate::counter_texts::CounterTexts;
+use crate::counter_file::CounterTexts;
 use crate::event_log::EventLog;
 use crate::left_log::LeftLog;
 use crate::reporter::Reporter;
 use crate::sums::Sums;
 use crate::tracer::Tracer;
-use rad_desk::{Call, Gate, Go, Ledger, Worker, WorkerReport};
-use rad_log::{Level, Log, logs_at};
-use rad_metrics::Numbers;
+use crate::workers::worker_name;
+use rad_desk::{Asked, Call, Gate, Go, Ledger, Worker, WorkerReport};
+use rad_log::{Level, Log, logs_at, tell};
+use rad_metrics::{Numbers, worker_row};
 use rad_realms::Config;
 use std::alloc::{AllocError, Global};
 use std::time::Clock;
@@ -54,7 +55,9 @@ impl<'a, L: Log, R: Clock> Telemetry<'a, L, R> {
 
     /// Logs that a worker ended by itself.
     pub fn tell_end(&self, worker: Worker) {
-        self.events.ended(worker);
+        let name = worker_name(self.events.config, worker_row(worker));
+        let line = format_args!("event=stopped worker={name} reason=\"ended by itself\"");
+        tell(self.events.log, Level::Error, &line);
     }
 
     /// Makes a ledger that logs what is left at the end, and hands everything on to this one.
@@ -90,12 +93,11 @@ impl<L: Log, R: Clock> Gate for Telemetry<'_, L, R> {
 
     fn after(&self, _worker: Worker, _call: Call) {}
 
-    fn asks(&self, lane: u16) -> bool {
-        self.numbers.asks(lane)
-    }
-
-    fn traces(&self) -> bool {
-        self.events.tracer.is_on() || logs_at(self.events.log, Level::Trace)
+    fn asks(&self, lane: u16) -> Asked {
+        Asked {
+            standing: self.numbers.asks(lane),
+            origins: self.events.tracer.is_on() || logs_at(self.events.log, Level::Trace),
+        }
     }
 
     fn report(&self, worker: Worker, report: &WorkerReport<'_>) {

@@ -2,10 +2,10 @@
 
 use crate::tracer::{Tracer, Wanted};
 use rad_desk::Session;
-use rad_log::{Level, Log, tell, warn_of_reason};
+use rad_log::{Level, Log, find_path, tell, warn_of_reason};
 use rad_realms::read_address;
 use std::alloc::{AllocError, AllocGlobal, Global};
-use std::env::{self, Env, VarError};
+use std::env::Env;
 use std::fmt::{self, Display};
 use std::fs::{self, Files};
 use std::io::{Error, ErrorKind, Read};
@@ -15,6 +15,9 @@ use std::sync::Wait;
 /// The environment variable that names the file.
 const TRACE: &str = "RAD_PROXY_TRACE";
 
+/// The event of a fault.
+const FAULT: &str = "trace-fault";
+
 /// The most octets that the file may have.
 const MOST_OCTETS: usize = 4096;
 
@@ -23,12 +26,6 @@ const MOST_LINES: usize = 16;
 
 /// The most octets of the Value of an attribute (RFC 2865 section 5).
 const MOST_VALUE: usize = 253;
-
-/// The file that names what is traced.
-#[derive(Drop)]
-pub struct TraceFile {
-    path: String,
-}
 
 /// Why nothing is traced, though there is a file. The first reason that applies is logged.
 #[derive(Clone, Copy, PartialEq, Eq)]
@@ -136,11 +133,11 @@ impl TraceLook {
         &mut self,
         rt: &R,
         source: &S,
-        file: &TraceFile,
+        path: &str,
         tracer: &Tracer<L>,
         log: &L,
     ) {
-        let fault = source.read_trace(file.path.as_str(), &mut self.read).err();
+        let fault = source.read_trace(path, &mut self.read).err();
         if fault == self.fault && self.read.as_slice() == self.text.as_slice() {
             return;
         }
@@ -153,7 +150,7 @@ impl TraceLook {
         let count = self.wanted.len();
         tracer.set(rt, &mut self.wanted);
         match fault {
-            Some(fault) => log_trace_fault(log, fault),
+            Some(fault) => warn_of_reason(log, FAULT, &fault),
             None => tell(log, Level::Info, &format_args!("event=trace count={count}")),
         }
     }
@@ -197,59 +194,38 @@ fn wanted_by(line: &str) -> Option<Wanted> {
     }
 }
 
-/// What comes next in a value.
-#[derive(Clone, Copy)]
-enum Next {
-    /// An octet, or a `%`.
-    Octet,
-    /// The first of the two digits of an octet.
-    First,
-    /// The second one, after a first one of this value.
-    Second(u8),
-}
-
 /// Returns the octets of a value: 1 to 253. A `%` and two hexadecimal digits stand for the octet of that number, as in a
 /// log line, and anything else for itself.
 fn octets_of(value: &str) -> Option<Session> {
     let mut octets = [0; MOST_VALUE];
     let mut count = 0_usize;
-    let mut next = Next::Octet;
-    for octet in value.as_bytes() {
-        let (whole, after) = read_octet(next, *octet)?;
-        next = after;
-        if let Some(whole) = whole {
-            let place = octets.get_mut(count)?;
-            *place = whole;
-            count = count.saturating_add(1);
-        }
+    let mut rest = value.as_bytes();
+    for _ in 0..value.len() {
+        let Some((octet, after)) = rest.split_first() else {
+            break;
+        };
+        let place = octets.get_mut(count)?;
+        (*place, rest) = match *octet {
+            b'%' => escaped_octet(after)?,
+            octet => (octet, after),
+        };
+        count = count.saturating_add(1);
     }
-    match next {
-        Next::Octet if count > 0 => Some(Session::of(octets.get(..count)?)),
-        _ => None,
+    if count == 0 {
+        return None;
     }
+    Some(Session::of(octets.get(..count)?))
 }
 
-/// Returns the octet that is whole with this one of the value, if one is, and what comes next.
-fn read_octet(next: Next, octet: u8) -> Option<(Option<u8>, Next)> {
-    match next {
-        Next::Octet if octet == b'%' => Some((None, Next::First)),
-        Next::Octet => Some((Some(octet), Next::Octet)),
-        Next::First => Some((None, Next::Second(digit_of(octet)?))),
-        Next::Second(first) => {
-            let whole = first.saturating_mul(16).saturating_add(digit_of(octet)?);
-            Some((Some(whole), Next::Octet))
-        }
-    }
-}
-
-/// Returns the value of a hexadecimal digit.
-fn digit_of(octet: u8) -> Option<u8> {
-    match octet {
-        b'0'..=b'9' => Some(octet.saturating_sub(b'0')),
-        b'a'..=b'f' => Some(octet.saturating_sub(b'a').saturating_add(10)),
-        b'A'..=b'F' => Some(octet.saturating_sub(b'A').saturating_add(10)),
-        _ => None,
-    }
+/// Returns the octet of two hexadecimal digits, and what follows them.
+fn escaped_octet(text: &[u8]) -> Option<(u8, &[u8])> {
+    let (first, rest) = text.split_first()?;
+    let (second, rest) = rest.split_first()?;
+    let first = char::from(*first).to_digit(16)?;
+    let number = first
+        .saturating_mul(16)
+        .saturating_add(char::from(*second).to_digit(16)?);
+    Some((u8::try_from(number).ok()?, rest))
 }
 
 impl Display for TraceFault {
@@ -277,24 +253,9 @@ impl Display for TraceFault {
 /// # Errors
 ///
 /// `AllocError` if memory is refused.
-pub fn find_trace_file<R, L>(rt: &R, log: &L) -> Result<Option<TraceFile>, AllocError>
-where
-    R: Env + AllocGlobal,
-    L: Log,
-{
-    match env::var(rt, TRACE) {
-        Ok(path) if path.is_empty() => Ok(None),
-        Ok(path) => Ok(Some(TraceFile { path })),
-        Err(VarError::NotPresent) => Ok(None),
-        Err(VarError::OutOfMemory) => Err(AllocError),
-        Err(VarError::NotUnicode) => {
-            log_trace_fault(log, TraceFault::NoText);
-            Ok(None)
-        }
-    }
-}
-
-/// Logs that nothing is traced, and why.
-fn log_trace_fault<L: Log>(log: &L, fault: TraceFault) {
-    warn_of_reason(log, "trace-fault", &fault);
+pub fn find_trace_file<R: Env + AllocGlobal, L: Log>(
+    rt: &R,
+    log: &L,
+) -> Result<Option<String>, AllocError> {
+    find_path(rt, TRACE, log, FAULT, &TraceFault::NoText)
 }

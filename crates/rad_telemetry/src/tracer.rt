@@ -5,16 +5,13 @@ ghost use Rattle.rad_telemetry.specs.Traced.{fits, is_one as the_one};
 
 use rad_desk::{Origin, Session, Worker, WorkerReport, user_of};
 use rad_lane::session_of;
+use rad_log::lock_soon;
 use rad_packet::read;
 use rad_realms::Endpoint;
 use std::alloc::Global;
-use std::hint::spin_loop;
 use std::mem;
 use std::sync::atomic::{AtomicBool, Ordering};
 use std::sync::{Mutex, Wait};
-
-/// How many times a worker tries the lock of what is traced. Each holder keeps it only for some steps.
-const TRIES: u32 = 2000;
 
 /// Something that is traced.
 #[derive(Drop)]
@@ -64,7 +61,7 @@ fn is_one(found: Option<&[u8]>, text: &[u8]) -> bool
 #[derive(Drop)]
 pub struct Tracer<L> {
     /// A log of each level.
-    log: L,
+    pub(crate) log: L,
     is_on: AtomicBool,
     wanted: Mutex<Vec<Wanted>>,
 }
@@ -77,10 +74,6 @@ impl<L> Tracer<L> {
             is_on: AtomicBool::new(false),
             wanted: Mutex::new(Vec::new(alloc)),
         }
-    }
-
-    pub(crate) fn log(&self) -> &L {
-        &self.log
     }
 
     /// Returns whether anything is traced.
@@ -102,13 +95,7 @@ impl<L> Tracer<L> {
             return None;
         }
         let subject = subject_of(worker, report)?;
-        for _ in 0..TRIES {
-            if let Some(wanted) = self.wanted.try_lock() {
-                return place_of(wanted.as_slice(), &subject);
-            }
-            spin_loop();
-        }
-        None
+        place_of(lock_soon(&self.wanted)?.as_slice(), &subject)
     }
 }
 
@@ -152,7 +139,7 @@ fn subject_of<'a>(worker: Worker, report: &WorkerReport<'a>) -> Option<Subject<'
 }
 
 /// Returns the subject of a datagram of a client, which has a user and a session if it is a packet that has them.
-fn subject_of_packet(client: Endpoint, octets: &[u8]) -> Subject<'_> {
+pub(crate) fn subject_of_packet(client: Endpoint, octets: &[u8]) -> Subject<'_> {
     let Endpoint { address, .. } = client;
     match read(octets) {
         Ok(packet) => Subject {

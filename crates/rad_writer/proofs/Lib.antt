@@ -1,1 +1,4 @@
 mod Parcels
+mod Passing
+mod RunLines
+mod Sums

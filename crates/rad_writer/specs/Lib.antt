@@ -1,3 +1,6 @@
+pub mod Buffer
 pub mod Entries
+pub mod Fills
 pub mod Parcels
 pub mod RunNames
+pub mod RunLines

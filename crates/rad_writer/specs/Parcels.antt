@@ -1,97 +1,89 @@
--- The form in which a parcel passes through the buffer (own): of a response, or of a request that is left. It has a head of
--- 66 octets, then of a response the packet to the home server, the home server's reply and the response, and of a request that is left that
--- request. Numbers have their most significant octet first.
-use Rattle.std.specs.Prelude.{◌≡◌, ℕ, ◌-◌, ◌<◌, ◌^◌, ◌==◌, if◌then◌else◌, nat_lt, List, ◌∷◌, ◌++◌, length, Option, Some, None}
-use Rattle.std.specs.Int.{w16, w64, to_be_bytes}
-use Rattle.rad_auth.specs.Mark.{mark_value}
-use Rattle.rad_auth.specs.declared.mark.Mark.{Mark}
+-- A parcel (own): a response, or a request that is left, as it passes through the buffer.
+use Rattle.std.specs.Prelude.{◌≡◌, ℕ, ◌+◌, ◌-◌, ◌≤◌, List, [], ◌∷◌, ◌++◌, length, Option, Some, None, option_map}
+use Rattle.rad_auth.specs.Mark.{EndsWithMark}
+use Rattle.ledger_files.specs.declared.batch.LineHead.{LineHead}
 use Rattle.rad_lane.specs.declared.outgoing.Outgoing.{Outgoing}
 use Rattle.rad_desk.specs.declared.leaving.LeftRecord.{LeftRecord}
-use Rattle.rad_desk.specs.declared.leaving.LeftState.{LeftState}
-use Rattle.rad_desk.specs.declared.leaving.LeftState.TheVariants as state
-use Rattle.rad_writer.specs.declared.entry_buffer.Parcel.{Parcel}
+use Rattle.rad_writer.specs.declared.parcel.Origin.{Origin}
+use Rattle.rad_writer.specs.declared.parcel.Origin.TheVariants.{Left, Response}
+use Rattle.rad_writer.specs.declared.parcel.Parcel.{Parcel}
 use Rattle.rad_writer.specs.declared.parcel.ParcelHead.{ParcelHead}
 
--- How often a request was sent, and when one of this age was accepted, as a head has it: the greatest number if it is not known.
-abbrev pub sendings_kept : Option ℕ → ℕ
-sendings_kept None = 65535
-sendings_kept (Some sendings) = if nat_lt sendings 65536 then sendings else 65535
+-- How many octets the packets of a parcel have together, by its head; and no packet is longer than 4096 octets.
+abbrev pub octets_by : Origin → ℕ
+octets_by (Response serial sent_count reply_count response_count) = sent_count + reply_count + response_count
+octets_by (Left fate request_count) = request_count
 
-abbrev pub accepted_kept : ℕ → Option ℕ → ℕ
-accepted_kept now None = 18446744073709551615
-accepted_kept now (Some age) = now - age
+abbrev pub octets_of : ParcelHead → ℕ
+octets_of head = octets_by head.its
 
--- The octets of a head.
-abbrev pub head_octets : ParcelHead → List ℕ
-head_octets head =
-    head.kind ∷ (to_be_bytes w64 head.time ++ (to_be_bytes w64 head.serial ++ (to_be_bytes w64 head.number
-    ++ (to_be_bytes w16 head.lane ++ (head.client ++ (to_be_bytes w16 head.port ++ (head.identifier ∷ (head.authenticator
-    ++ (to_be_bytes w16 head.sendings ++ (to_be_bytes w64 head.accepted
-    ++ (to_be_bytes w16 head.sent ++ (to_be_bytes w16 head.reply ++ to_be_bytes w16 head.response))))))))))))
+abbrev pub FitsBy : Origin → Type 0
+FitsBy (Response serial sent_count reply_count response_count) = (sent_count ≤ 4096) × (reply_count ≤ 4096) × (response_count ≤ 4096)
+FitsBy (Left fate request_count) = request_count ≤ 4096
 
--- The octets of a parcel: those of its head, and three packets.
-abbrev pub parcel_octets : ParcelHead → List ℕ → List ℕ → List ℕ → List ℕ
-parcel_octets head sent reply response = head_octets head ++ (sent ++ (reply ++ response))
+abbrev pub Fits : ParcelHead → Type 0
+Fits head = FitsBy head.its
 
--- Each number of a head fits its octets.
-pub record IsHead (head : ParcelHead) : Type 0 where
-  pub time : head.time < 2 ^ 64
-  pub sendings : head.sendings < 2 ^ 16
-  pub accepted : head.accepted < 2 ^ 64
-  pub serial : head.serial < 2 ^ 64
-  pub number : head.number < 2 ^ 64
-  pub lane : head.lane < 2 ^ 16
-  pub client : length head.client ≡ 4
-  pub port : head.port < 2 ^ 16
-  pub authenticator : length head.authenticator ≡ 16
-  pub sent : head.sent < 2 ^ 16
-  pub reply : head.reply < 2 ^ 16
-  pub response : head.response < 2 ^ 16
+-- How many octets the packets of this parcel have, if there is one; and those of all these parcels.
+abbrev pub octets_held : Option ParcelHead → ℕ
+octets_held None = 0
+octets_held (Some head) = octets_of head
 
--- Each number of a mark fits its octets.
-pub record FitsOctets (mark : Mark) : Type 0 where
-  pub lane : mark.lane < 2 ^ 16
-  pub number : mark.number < 2 ^ 64
+abbrev pub all_octets : List ParcelHead → ℕ
+all_octets [] = 0
+all_octets (head ∷ heads) = octets_of head + all_octets heads
 
--- The state in which a request is left whose parcel has this kind. A response's parcel has another kind.
-abbrev pub state_of_kind : ℕ → Option LeftState
-state_of_kind kind =
-    if kind == 1 then Some state.Queued else if kind == 2 then Some state.Outstanding else if kind == 3 then Some state.Untaken else None
+-- The head has the lengths of these packets. A request that is left is one packet.
+abbrev pub AreCounted : Origin → List ℕ → List ℕ → List ℕ → Type 0
+AreCounted (Response serial sent_count reply_count response_count) its_sent its_reply its_response =
+    (sent_count ≡ length its_sent) × (reply_count ≡ length its_reply) × (response_count ≡ length its_response)
+AreCounted (Left fate request_count) its_sent its_reply its_response =
+    (request_count ≡ length its_sent) × (its_reply ≡ []) × (its_response ≡ [])
 
--- This is the head of a response that was handed over at this time. A sending ends with the Value of its mark.
-pub record IsHeadOf (now : ℕ) (outgoing : Outgoing) (head : ParcelHead) : Type 0 where
-  pub kind : state_of_kind head.kind ≡ None
-  pub time : head.time ≡ now
-  pub serial : head.serial ≡ outgoing.serial
-  pub mark : (before : List ℕ) (mark : Mark) → FitsOctets mark → outgoing.reply.sending ≡ before ++ mark_value mark → (head.lane ≡ mark.lane) × (head.number ≡ mark.number)
-  pub client : head.client ≡ outgoing.client
-  pub port : head.port ≡ outgoing.port
-  pub identifier : head.identifier ≡ outgoing.reply.head.identifier
-  pub authenticator : head.authenticator ≡ outgoing.reply.head.authenticator
-  pub sent : length outgoing.reply.sending < 2 ^ 16 → head.sent ≡ length outgoing.reply.sending
-  pub reply : length outgoing.reply.reply < 2 ^ 16 → head.reply ≡ length outgoing.reply.reply
-  pub response : length outgoing.reply.response < 2 ^ 16 → head.response ≡ length outgoing.reply.response
+abbrev pub IsCounted : Parcel → Type 0
+IsCounted parcel = AreCounted parcel.head.its parcel.sent.now parcel.reply.now parcel.response.now
 
--- This is the head of a request that was told as left at this time. It has the state of the request, and says how often it was sent
--- and when it was accepted, if that is known.
-pub record IsHeadOfLeft (now : ℕ) (told : LeftRecord) (head : ParcelHead) : Type 0 where
-  pub kind : state_of_kind head.kind ≡ Some told.state
-  pub time : head.time ≡ now
-  pub number : head.number ≡ told.number
-  pub lane : head.lane ≡ told.lane
-  pub client : head.client ≡ told.client
-  pub port : head.port ≡ told.port
-  pub identifier : head.identifier ≡ told.identifier
-  pub authenticator : head.authenticator ≡ told.authenticator
-  pub sendings : head.sendings ≡ sendings_kept told.sendings
-  pub accepted : head.accepted ≡ accepted_kept now told.age
-  pub sent : length told.request.now < 2 ^ 16 → head.sent ≡ length told.request.now
-  pub reply : head.reply ≡ 0
-  pub response : head.response ≡ 0
+-- The packets of a parcel, one behind the other.
+abbrev pub packets_of : Parcel → List ℕ
+packets_of parcel = parcel.sent.now ++ (parcel.reply.now ++ parcel.response.now)
 
--- The parcel has this head and these packets.
-pub record HasPackets (parcel : Parcel) (its_head : ParcelHead) (its_sent its_reply its_response : List ℕ) : Type 0 where
-  pub head : parcel.head ≡ its_head
-  pub sent : parcel.sent.now ≡ its_sent
-  pub reply : parcel.reply.now ≡ its_reply
-  pub response : parcel.response.now ≡ its_response
+-- This is the parcel of a response that was handed over at this time. Its lane and its number are those of the mark.
+pub record IsParcelOf (now : ℕ) (outgoing : Outgoing) (parcel : Parcel) : Type 0 where
+  pub its : parcel.head.its ≡ Response outgoing.serial (length outgoing.reply.sending) (length outgoing.reply.reply) (length outgoing.reply.response)
+  pub time : parcel.head.time ≡ now
+  pub mark : EndsWithMark (record { lane = parcel.head.lane; number = parcel.head.number }) outgoing.reply.sending
+  pub client : parcel.head.client ≡ outgoing.client
+  pub port : parcel.head.port ≡ outgoing.port
+  pub identifier : parcel.head.identifier ≡ outgoing.reply.head.identifier
+  pub authenticator : parcel.head.authenticator ≡ outgoing.reply.head.authenticator
+  pub sending : parcel.sent.now ≡ outgoing.reply.sending
+  pub reply : parcel.reply.now ≡ outgoing.reply.reply
+  pub response : parcel.response.now ≡ outgoing.reply.response
+
+-- This is the parcel of a request that was told as left at this time. Its age tells when it was accepted.
+pub record IsParcelOfLeft (now : ℕ) (told : LeftRecord) (parcel : Parcel) : Type 0 where
+  pub its : parcel.head.its ≡ Left (record { state = told.state; sendings = told.sendings; accepted = option_map (λ age. now - age) told.age }) (length told.request.now)
+  pub time : parcel.head.time ≡ now
+  pub number : parcel.head.number ≡ told.number
+  pub lane : parcel.head.lane ≡ told.lane
+  pub client : parcel.head.client ≡ told.client
+  pub port : parcel.head.port ≡ told.port
+  pub identifier : parcel.head.identifier ≡ told.identifier
+  pub authenticator : parcel.head.authenticator ≡ told.authenticator
+  pub request : parcel.sent.now ≡ told.request.now
+
+-- The parcel has this head, and these octets are its packets, one behind the other.
+pub record HasPackets (head : ParcelHead) (octets : List ℕ) (parcel : Parcel) : Type 0 where
+  pub its_head : parcel.head ≡ head
+  pub counted : IsCounted parcel
+  pub packets : packets_of parcel ≡ octets
+
+-- What a batch keeps of a head: a request that is left has no serial.
+abbrev pub serial_by : Origin → Option ℕ
+serial_by (Response serial sent_count reply_count response_count) = Some serial
+serial_by (Left fate request_count) = None
+
+pub record IsLineHead (head : ParcelHead) (line : LineHead) : Type 0 where
+  pub time : line.time ≡ head.time
+  pub lane : line.lane ≡ head.lane
+  pub serial : line.serial ≡ serial_by head.its

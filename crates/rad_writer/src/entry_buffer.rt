@@ -1,100 +1,127 @@
 //! The writer's end of the buffer.
 
-ghost use Rattle.std.specs.Prelude.{◌≡◌, ◌++◌, ℕ, List, length};
+ghost use Rattle.std.specs.Prelude.{◌≡◌, ◌+◌, ◌<◌, ◌≤◌, ◌++◌, length, take, vec_len, MatchBool};
+ghost use Rattle.rtrb.specs.Ring.{known_items, received};
+ghost use Rattle.rad_writer.specs.Parcels.{HasPackets, all_octets, octets_held, octets_of};
 
-use crate::parcel::{HEAD, MOST, ParcelHead};
+use crate::parcel::{MOST, Origin, Parcel, ParcelHead};
 use rtrb::Consumer;
 use std::alloc::{AllocError, Global};
 
 /// The writer's end of the buffer, and the parcel that was taken last.
 #[derive(Drop)]
 pub(crate) struct EntryBuffer {
-    buffer: Consumer<u8, Global>,
-    /// The packets of the parcel that was taken last, followed by others that don't count.
-    packets: Vec<u8>,
+    packets: Consumer<u8, Global>,
+    heads: Consumer<ParcelHead, Global>,
+    /// The packets of the parcel that is held, followed by octets that don't count.
+    room: Vec<u8>,
     /// The head of the parcel that was taken and is not done with.
-    head: Option<ParcelHead>,
-}
-
-/// A parcel that was taken.
-#[derive(Clone, Copy)]
-pub(crate) struct Parcel<'a> {
-    pub(crate) head: ParcelHead,
-    pub(crate) sent: &'a [u8],
-    pub(crate) reply: &'a [u8],
-    pub(crate) response: &'a [u8],
-}
-
-impl<'a> Parcel<'a> {
-    ghost use Rattle.rad_writer.specs.Parcels.{HasPackets};
-
-    /// Returns the parcel of this head. Its packets are the first of these octets.
-    fn of(head: ParcelHead, packets: &'a [u8]) -> Parcel<'a>
-        ensures { (sent reply response rest : List ℕ) → packets.now ≡ sent ++ (reply ++ (response ++ rest)) → head.sent ≡ length sent → head.reply ≡ length reply → head.response ≡ length response → HasPackets result head sent reply response }
-    {
-        let (sent, more) = split(packets, usize::from(head.sent));
-        let (reply, more) = split(more, usize::from(head.reply));
-        let (response, _) = split(more, usize::from(head.response));
-        Parcel {
-            head,
-            sent,
-            reply,
-            response,
-        }
-    }
+    held: Option<ParcelHead>,
+    ghost whole: { length (received packets) ≡ all_octets (received heads) },
+    ghost has_room: { vec_len room ≡ 12288 },
+    ghost fits: { octets_held held ≤ 12288 },
 }
 
 impl EntryBuffer {
-    /// Makes the end, with room for a parcel.
+    ghost use Rattle.std.specs.Prelude.{[], None, MatchOption, IfOk};
+    ghost use Rattle.rad_writer.specs.Buffer.{HasNone, HoldsParcel, SameTaken, TakesNothing, TakesParcel};
+
+    /// Makes the end, with room for the packets of a parcel.
     ///
     /// # Errors
     ///
     /// `AllocError` if memory is refused.
     pub(crate) fn new(
         alloc: Global,
-        buffer: Consumer<u8, Global>,
-    ) -> Result<EntryBuffer, AllocError> {
-        let mut packets = Vec::with_capacity(alloc, MOST)?;
-        packets.resize(MOST, 0)?;
+        packets: Consumer<u8, Global>,
+        heads: Consumer<ParcelHead, Global>,
+    ) -> Result<EntryBuffer, AllocError>
+        requires { (received packets ≡ []) × (received heads ≡ []) }
+        ensures { IfOk result (λ buffer. (buffer.held ≡ None) × (received buffer.packets ≡ []) × (received buffer.heads ≡ [])) }
+    {
+        let mut room = Vec::with_capacity(alloc, MOST)?;
+        room.resize(MOST, 0)?;
         Ok(EntryBuffer {
-            buffer,
             packets,
-            head: None,
+            heads,
+            room,
+            held: None,
         })
     }
 
-    /// Returns the next parcel, if there is one. It is the same one until [`EntryBuffer::pass`].
-    pub(crate) fn next(&mut self) -> Option<Parcel<'_>> {
-        if self.head.is_none() {
-            self.take();
-        }
-        let head = self.head?;
-        Some(Parcel::of(head, self.packets.as_slice()))
-    }
-
-    /// Ends the parcel that was taken.
-    pub(crate) fn pass(&mut self) {
-        self.head = None;
-    }
-
-    /// Takes the next parcel, if there is one. The front puts a parcel into the buffer whole.
-    fn take(&mut self) {
-        let mut octets = [0; HEAD];
-        if self.buffer.pop_entire_slice(&mut octets).is_err() {
+    /// Takes the next parcel, if there is one and none is held. A head is there only once its packets are, so one without
+    /// them can't be found. It would wait for them.
+    pub(crate) fn take(&mut self)
+        ensures takes { MatchOption self.old.held (MatchOption self.new.held (TakesNothing self.old self.new) (λ head. TakesParcel self.old head self.new)) (λ _. TakesNothing self.old self.new) }
+        ensures none { MatchOption self.old.held (MatchOption self.new.held (HasNone self.new) (λ _. Unit {0})) (λ _. Unit {0}) }
+    {
+        if self.held.is_some() || self.heads.is_empty() {
             return;
         }
-        let head = ParcelHead::read(&octets);
-        let count = head.packets().min(self.packets.len());
-        let (room, _) = self.packets.as_mut_slice().split_at_mut(count);
-        if self.buffer.pop_entire_slice(room).is_ok() {
-            self.head = Some(head);
+        let head = *self.heads.peek_known();
+        if head.fits() && take_octets(&mut self.packets, head.octets(), &mut self.room) {
+            self.heads.pop_known();
+            self.held = Some(head);
         }
+    }
+
+    /// Returns the parcel that is held, if there is one.
+    pub(crate) fn parcel(&self) -> Option<Parcel<'_>>
+        ensures { MatchOption result (self.now.held ≡ None) (λ parcel. HoldsParcel self.now parcel) }
+    {
+        let head = self.held?;
+        Some(parcel_of(head, self.room.as_slice()))
+    }
+
+    /// Ends the parcel that is held.
+    pub(crate) fn pass(&mut self)
+        ensures { (self.new.held ≡ None) × SameTaken self.old self.new }
+    {
+        self.held = None;
     }
 }
 
-/// Splits octets after so many, or at their end if they are fewer.
-fn split(octets: &[u8], count: usize) -> (&[u8], &[u8])
-    ensures { (front rest : List ℕ) → octets.now ≡ front ++ rest → count ≡ length front → (result.0.now ≡ front) × (result.1.now ≡ rest) }
+/// Takes so many octets, if they are there, to the front of this room, and returns whether they were.
+fn take_octets(packets: &mut Consumer<u8, Global>, count: usize, room: &mut Vec<u8>) -> bool
+    requires { count ≤ vec_len room.old }
+    ensures room { vec_len room.new ≡ vec_len room.old }
+    ensures taken { MatchBool result (received packets.new ≡ received packets.old ++ take count room.new.items) ((received packets.new ≡ received packets.old) × (room.new.items ≡ room.old.items)) }
+    ensures wants { MatchBool result (Unit {0}) (length (known_items packets.new) < count) }
 {
-    octets.split_at(count.min(octets.len()))
+    let (front, _) = room.as_mut_slice().split_at_mut(count);
+    packets.pop_entire_slice(front).is_ok()
+}
+
+/// Returns the parcel of a head, whose packets are the first of these octets.
+fn parcel_of(head: ParcelHead, octets: &[u8]) -> Parcel<'_>
+    requires { octets_of head ≤ length octets.now }
+    ensures { HasPackets head (take (octets_of head) octets.now) result }
+{
+    match head.its {
+        Origin::Response {
+            sent,
+            reply,
+            response,
+            ..
+        } => {
+            let (sent, rest) = octets.split_at(sent);
+            let (reply, rest) = rest.split_at(reply);
+            let (response, _) = rest.split_at(response);
+            Parcel {
+                head,
+                sent,
+                reply,
+                response,
+            }
+        }
+        Origin::Left { request, .. } => {
+            let (request, _) = octets.split_at(request);
+            Parcel {
+                head,
+                sent: request,
+                reply: &[],
+                response: &[],
+            }
+        }
+    }
 }

@@ -1,23 +1,24 @@
-//! The front's end of the buffer.
+//! What the front hands each response to, and at the end each request that is left.
 
-ghost use Rattle.std.specs.Prelude.{◌≡◌, Some};
+ghost use Rattle.std.specs.Prelude.{◌≡◌, ◌⊎◌, Some, MatchBool};
+ghost use Rattle.rad_writer.specs.Buffer.{Gives, GivesNothing, PutsEntry};
+ghost use Rattle.rad_writer.specs.Parcels.{IsCounted};
 
 use crate::counts::RunCounts;
-use crate::parcel::{ParcelHead, pack, pack_left};
-use rad_desk::{Handed, Ledger, LeftRecord};
+use crate::giving::ParcelGiver;
+use crate::parcel::Parcel;
+use rad_desk::{Handed, Ledger, LeftRecord, Wire};
 use rad_lane::{Counts, Outgoing};
-use rad_metrics::LedgerState;
-use rtrb::Producer;
-use std::alloc::Global;
+use rad_metrics::{LedgerState, time_since_1970};
 use std::sync::{Arc, Wait, WaitMethods};
 use std::thread;
-use std::time::{Clock, Duration, Instant, SystemTime, UNIX_EPOCH};
+use std::time::{Clock, Duration, Instant};
 
 /// How many milliseconds pass between two looks whether there is room.
 const LOOK: u64 = 1;
 
-/// The front's end of the buffer. An entry that finds no room there is dropped and counted. A request that is left waits
-/// for room, as long as there is time.
+/// What the front puts into the buffer. An entry that finds no room there is dropped and counted. A request that is left
+/// waits for room, as long as there is time.
 #[derive(Drop)]
 pub struct LedgerInlet<'a, R> {
     pub(crate) clock: &'a R,
@@ -25,9 +26,7 @@ pub struct LedgerInlet<'a, R> {
     pub(crate) longest: Duration,
     /// The last time that was read, in milliseconds since 1970.
     pub(crate) time: u64,
-    /// Where each parcel is put together.
-    pub(crate) parcel: Vec<u8>,
-    pub(crate) buffer: Producer<u8, Global>,
+    pub(crate) giver: ParcelGiver,
     pub(crate) counts: Arc<RunCounts>,
     pub(crate) state: Arc<LedgerState>,
     /// What was handed over so far, also what was dropped.
@@ -37,7 +36,8 @@ pub struct LedgerInlet<'a, R> {
 impl<R: Clock> LedgerInlet<'_, R> {
     /// Returns the time, in milliseconds since 1970. It is the last one if the clock can't be read.
     fn read_time(&mut self) -> u64
-        ensures { self.new.handed ≡ self.old.handed }
+        ensures time { self.new.time ≡ result }
+        ensures same { (self.new.handed ≡ self.old.handed) × (self.new.giver ≡ self.old.giver) }
     {
         self.time = time_since_1970(self.clock).unwrap_or(self.time);
         self.time
@@ -51,32 +51,23 @@ impl<R: Clock + Wait> Ledger for LedgerInlet<'_, R> {
         self.state.begin();
     }
 
-    fn keep(&mut self, outgoing: &Outgoing) {
-        let time = self.read_time();
-        let head = ParcelHead::of(time, outgoing);
-        self.counts.took(head.lane, head.serial);
-        self.state.hand_over(head.lane, head.serial);
-        let is_packed = pack(&head, outgoing, &mut self.parcel).is_ok();
-        if is_packed
-            && self
-                .buffer
-                .push_entire_slice(self.parcel.as_slice())
-                .is_ok()
-        {
+    fn keep<W: Wire>(&mut self, outgoing: &Outgoing, wire: &W) {
+        let lane = outgoing.reply.mark().lane;
+        self.counts.took(lane, outgoing.serial);
+        self.state.hand_over(lane, outgoing.serial);
+        if self.put(outgoing) {
             self.state.count_put();
         } else {
             self.state.count_dropped();
         }
-        self.handed.add(outgoing);
+        self.handed.add(outgoing, wire);
     }
 
     fn leave(&mut self, told: &LeftRecord<'_>) {
         let since = self.state.count_left(self.clock);
         self.counts.leaves(told.lane);
-        let head = ParcelHead::of_left(self.read_time(), told);
-        if pack_left(&head, told.request, &mut self.parcel).is_ok() {
-            self.put_waiting(since);
-        }
+        let parcel = Parcel::of_left(self.read_time(), told);
+        self.give_waiting(&parcel, since);
     }
 
     fn end_lane(&mut self, lane: u16, counts: &Counts) {
@@ -84,17 +75,29 @@ impl<R: Clock + Wait> Ledger for LedgerInlet<'_, R> {
     }
 }
 
+impl<R: Clock> LedgerInlet<'_, R> {
+    /// Puts the entry of a response into the buffer, whole, and returns whether there was room for it.
+    fn put(&mut self, outgoing: &Outgoing) -> bool
+        ensures put { MatchBool result (PutsEntry self.old outgoing.now self.new) (GivesNothing self.old.giver self.new.giver) }
+        ensures handed { self.new.handed ≡ self.old.handed }
+    {
+        let time = self.read_time();
+        self.giver.give(&Parcel::of(time, outgoing))
+    }
+}
+
 impl<R: Clock + Wait> LedgerInlet<'_, R> {
-    /// Puts the parcel into the buffer once it has room for it, unless the time for that is over. It counts from this
+    /// Puts a parcel into the buffer once it has room for it, unless the time for that is over. It counts from this
     /// moment; if that is not known, nothing waits.
-    fn put_waiting(&mut self, since: Option<Instant>) {
+    fn give_waiting(&mut self, parcel: &Parcel<'_>, since: Option<Instant>)
+        requires { IsCounted parcel.now }
+        ensures { Gives self.old.giver parcel.now self.new.giver ⊎ GivesNothing self.old.giver self.new.giver }
+    {
         for _ in self.clock.forever() {
-            if self
-                .buffer
-                .push_entire_slice(self.parcel.as_slice())
-                .is_ok()
-                || self.is_over(since)
-            {
+            if self.giver.give(parcel) {
+                return;
+            }
+            if self.is_over(since) {
                 return;
             }
             thread::sleep(self.clock, Duration::from_millis(LOOK));
@@ -110,16 +113,5 @@ impl<R: Clock + Wait> LedgerInlet<'_, R> {
             },
             None => true,
         }
-    }
-}
-
-/// Returns the time, in milliseconds since 1970, if the clock can be read.
-pub(crate) fn time_since_1970<R: Clock>(clock: &R) -> Option<u64> {
-    let Ok(now) = SystemTime::now(clock) else {
-        return None;
-    };
-    match now.duration_since(UNIX_EPOCH) {
-        Ok(passed) => u64::try_from(passed.as_millis()).ok(),
-        Err(_) => None,
     }
 }

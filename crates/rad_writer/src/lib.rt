@@ -8,14 +8,17 @@
 //! NNNNNN the number of the file in the run. The next
 //! one is begun before a file has more than 256 MiB, and at midnight UTC. No file is ever removed or replaced.
 //!
-//! The definitions that the contracts cite are in specs: `Parcels` has the form of a response in the buffer, `Entries` the
-//! entry that it is written as, and `RunNames` the names in it. No contract says what passes from one thread to the other,
-//! such as a count; tests check that.
+//! The definitions that the contracts cite are in specs: `Parcels` has the form of a response in the buffer, `Buffer` what
+//! is put into it and taken from it, `Entries` the entry that a parcel is written as, `Fills` the lines of many, and
+//! `RunNames` the names in it. No contract says what passes from one thread to the other: not that the parcels that are
+//! taken are those that were put, nor a count. Tests check that.
 #![tactic(auto)]
 
 mod counts;
 mod entry_buffer;
+mod file_before;
 mod filling;
+mod giving;
 mod inlet;
 mod lines;
 mod opening;

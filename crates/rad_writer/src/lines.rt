@@ -1,17 +1,16 @@
 //! The lines of a ledger, made of what passed through the buffer.
 
-ghost use Rattle.std.specs.Prelude.{◌≡◌, ◌<◌, ◌^◌, IfOk, MatchOption, option_copied, slice_get};
+ghost use Rattle.std.specs.Prelude.{◌≡◌, ◌<◌, ◌^◌, IfOk, MatchOption, Some, length, option_copied, option_map, slice_get, string_bytes};
 ghost use Rattle.ledger_lines.specs.Written.{HasLineBehind};
-ghost use Rattle.rad_desk.specs.declared.leaving.LeftState.{LeftState as TheState};
-ghost use Rattle.rad_writer.specs.Entries.{IsEntryOf, IsLeftOf, sendings_in, state_in};
+ghost use Rattle.rad_writer.specs.Entries.{HasEntryBehind, HasLeftBehind, HasParcelBehind, IsEntryOf, IsLeftOf, IsMomentIfAny, IsMomentText, Tells, state_in};
+ghost use Rattle.rad_writer.specs.RunLines.{AreCounted, AreStarts, BeginsBehind, EndsBehind, NamesIfAny, count_in, lane_number, serial_in};
 
 use crate::counts::RunCounts;
-use crate::entry_buffer::Parcel;
-use crate::parcel::{ParcelHead, UNKNOWN_SENDINGS, UNKNOWN_TIME};
+use crate::parcel::{Fate, Origin, Parcel, ParcelHead};
 use crate::run_names::RunNames;
-use ledger_files::UtcTime;
+use ledger_files::{FoundFile, SUM_OCTETS, UtcTime};
 use ledger_lines::{
-    Begin, End, LaneCount, LaneStart, write_begin, write_end, write_entry, write_left,
+    Begin, End, FileBefore, LaneCount, LaneStart, write_begin, write_end, write_entry, write_left,
 };
 use rad_desk::{LeftState, status_of, user_of};
 use rad_lane::session_of;
@@ -35,7 +34,29 @@ pub(crate) fn line_of(
     parcel: &Parcel<'_>,
     out: Vec<u8>,
 ) -> Result<Vec<u8>, AllocError>
-    ensures { IfOk result (λ all. HasLineBehind out.items all.items) }
+    ensures line { IfOk result (λ all. HasLineBehind out.items all.items) }
+    ensures value { IfOk result (λ all. HasParcelBehind names.now parcel.now out.items all.items) }
+{
+    match parcel.head.its {
+        Origin::Response { serial, .. } => entry_line(alloc, names, parcel, serial, out),
+        Origin::Left { fate, .. } => left_line(alloc, names, parcel, fate, out),
+    }
+}
+
+/// Writes the line of the parcel of the response of this serial behind what these octets are.
+///
+/// # Errors
+///
+/// `AllocError` if memory is refused.
+fn entry_line(
+    alloc: Global,
+    names: &RunNames,
+    parcel: &Parcel<'_>,
+    serial: u64,
+    out: Vec<u8>,
+) -> Result<Vec<u8>, AllocError>
+    ensures line { IfOk result (λ all. HasLineBehind out.items all.items) }
+    ensures value { IfOk result (λ all. HasEntryBehind names.now parcel.now serial out.items all.items) }
 {
     let Parcel {
         head,
@@ -43,16 +64,12 @@ pub(crate) fn line_of(
         reply,
         response,
     } = *parcel;
-    if let Some(state) = head.state() {
-        return left_line(alloc, names, head, state, sent, out);
-    }
     let time = time_text(alloc, head.time)?;
-    let entry = entry_of(names, head, sent, reply, response, time.as_str());
+    let entry = entry_of(names, head, serial, sent, reply, response, time.as_str());
     write_entry(alloc, &entry, out)
 }
 
-/// Writes the line of a request that is left in this state, by the head of its parcel and its packet, behind what these
-/// octets are.
+/// Writes the line of the parcel of a request that is left behind what these octets are.
 ///
 /// # Errors
 ///
@@ -60,21 +77,35 @@ pub(crate) fn line_of(
 fn left_line(
     alloc: Global,
     names: &RunNames,
-    head: ParcelHead,
-    state: LeftState,
-    request: &[u8],
+    parcel: &Parcel<'_>,
+    fate: Fate,
     out: Vec<u8>,
 ) -> Result<Vec<u8>, AllocError>
-    ensures { IfOk result (λ all. HasLineBehind out.items all.items) }
+    ensures line { IfOk result (λ all. HasLineBehind out.items all.items) }
+    ensures value { IfOk result (λ all. HasLeftBehind names.now parcel.now fate out.items all.items) }
 {
+    let head = parcel.head;
     let time = time_text(alloc, head.time)?;
-    let accepted = accepted_text(alloc, head.accepted)?;
-    let accepted = match &accepted {
+    let accepted = accepted_text(alloc, fate.accepted)?;
+    let left = left_of(
+        names,
+        head,
+        fate,
+        parcel.sent,
+        time.as_str(),
+        lent(&accepted),
+    );
+    write_left(alloc, &left, out)
+}
+
+/// Returns the same text, which is lent.
+fn lent(text: &Option<String>) -> Option<&str>
+    ensures { option_copied result ≡ option_map string_bytes text.now }
+{
+    match text {
         Some(text) => Some(text.as_str()),
         None => None,
-    };
-    let left = left_of(names, head, state, request, time.as_str(), accepted);
-    write_left(alloc, &left, out)
+    }
 }
 
 /// Returns when a request was accepted, as a line has it, if it is known.
@@ -82,23 +113,25 @@ fn left_line(
 /// # Errors
 ///
 /// `AllocError` if memory is refused.
-fn accepted_text(alloc: Global, time: u64) -> Result<Option<String>, AllocError> {
-    if time == UNKNOWN_TIME {
-        return Ok(None);
+fn accepted_text(alloc: Global, time: Option<u64>) -> Result<Option<String>, AllocError>
+    ensures { IfOk result (λ text. IsMomentIfAny time (option_map string_bytes text)) }
+{
+    match time {
+        Some(time) => Ok(Some(time_text(alloc, time)?)),
+        None => Ok(None),
     }
-    Ok(Some(time_text(alloc, time)?))
 }
 
-/// Returns the request that is left in this state that a parcel's head and packet are, with these texts for its times.
+/// Returns the request that is left that a parcel's head and packet are, with these texts for its times.
 fn left_of<'a>(
     names: &'a RunNames,
     head: ParcelHead,
-    state: LeftState,
+    fate: Fate,
     request: &'a [u8],
     time: &'a str,
     accepted: Option<&'a str>,
 ) -> Left<'a>
-    ensures { IsLeftOf names.now head state request.now time.now (option_copied accepted.entry) result }
+    ensures { IsLeftOf names.now head fate request.now time.now (option_copied accepted.entry) result }
 {
     let told = told_in(request);
     let home = names.home(head.lane);
@@ -119,8 +152,8 @@ fn left_of<'a>(
         session: told.session,
         status: told.status,
         user: told.user,
-        state: state_of(state),
-        sendings: sendings_of(head),
+        state: state_of(fate.state),
+        sendings: fate.sendings,
         accepted,
         request,
     }
@@ -137,37 +170,29 @@ fn state_of(state: LeftState) -> rad_ledger::LeftState
     }
 }
 
-/// Returns how often a request that is left was sent, if its head knows it.
-fn sendings_of(head: ParcelHead) -> Option<u32>
-    ensures { result ≡ sendings_in head.sendings }
-{
-    if head.sendings == UNKNOWN_SENDINGS {
-        None
-    } else {
-        Some(u32::from(head.sendings))
-    }
-}
-
 /// Returns a time in milliseconds since 1970, as a line has it.
 ///
 /// # Errors
 ///
 /// `AllocError` if memory is refused.
-fn time_text(alloc: Global, time: u64) -> Result<String, AllocError> {
-    let time = UtcTime::of(time);
-    format!(in alloc; "{time}")
+fn time_text(alloc: Global, time: u64) -> Result<String, AllocError>
+    ensures { IfOk result (λ text. IsMomentText time (string_bytes text)) }
+{
+    let moment = UtcTime::of(time);
+    format!(in alloc; "{moment}")
 }
 
-/// Returns the entry that a parcel's head and packets are, with this text for its time.
+/// Returns the entry of this serial that a parcel's head and packets are, with this text for its time.
 fn entry_of<'a>(
     names: &'a RunNames,
     head: ParcelHead,
+    serial: u64,
     sent: &'a [u8],
     reply: &'a [u8],
     response: &'a [u8],
     time: &'a str,
 ) -> Entry<'a>
-    ensures { IsEntryOf names.now head sent.now reply.now response.now time.now result }
+    ensures { IsEntryOf names.now head serial sent.now reply.now response.now time.now result }
 {
     let told = told_in(sent);
     let client = head.client;
@@ -177,7 +202,7 @@ fn entry_of<'a>(
         time,
         home: names.home(head.lane),
         lane: head.lane,
-        serial: head.serial,
+        serial,
         number: head.number,
         client,
         port: head.port,
@@ -203,8 +228,10 @@ struct Told<'a> {
 }
 
 /// Returns what the packet of these octets tells, or nothing if they are no packet.
-fn told_in(sent: &[u8]) -> Told<'_> {
-    match read(sent) {
+fn told_in(request: &[u8]) -> Told<'_>
+    ensures { Tells request.now (option_copied result.realm) (option_copied result.session) result.status (option_copied result.user) }
+{
+    match read(request) {
         Ok(packet) => Told {
             realm: realm_of_packet(&packet),
             session: session_of(&packet),
@@ -220,8 +247,19 @@ fn told_in(sent: &[u8]) -> Told<'_> {
     }
 }
 
-/// Writes the line that begins a file of this number behind what these octets are. The next entry of each lane has the
-/// serial that is in `next` at its place.
+/// What the line that begins a file says besides its run and its lanes.
+#[derive(Clone, Copy)]
+pub(crate) struct FileStart<'a> {
+    /// The number of the file.
+    pub(crate) file: u64,
+    /// The sum of the lines before it.
+    pub(crate) sum: [u8; SUM_OCTETS],
+    /// The file of another run that was written last, if there is one and this is the first file.
+    pub(crate) before: Option<&'a FoundFile>,
+}
+
+/// Writes the line that begins a file behind what these octets are. The next entry of each lane has the serial that is in
+/// `next` at its place.
 ///
 /// # Errors
 ///
@@ -230,22 +268,55 @@ pub(crate) fn begin_line(
     alloc: Global,
     names: &RunNames,
     time: u64,
-    file: u64,
+    start: FileStart<'_>,
     next: &[u64],
     out: Vec<u8>,
 ) -> Result<Vec<u8>, AllocError>
-    ensures { IfOk result (λ all. HasLineBehind out.items all.items) }
+    ensures line { IfOk result (λ all. HasLineBehind out.items all.items) }
+    ensures begin { IfOk result (λ all. BeginsBehind names.now start.entry next.now out.items all.items) }
 {
     let time = time_text(alloc, time)?;
     let lanes = lane_starts(alloc, names, next)?;
-    let begin = Begin {
-        run: names.run,
-        time: time.as_str(),
-        version: VERSION,
-        file,
-        lanes,
-    };
+    let begin = begin_of(names, time.as_str(), start, lanes);
     write_begin(alloc, &begin, out)
+}
+
+/// Returns what begins a file, with this text for its time, and these lanes.
+fn begin_of<'a>(
+    names: &RunNames,
+    time: &'a str,
+    start: FileStart<'a>,
+    lanes: Vec<LaneStart<'a>>,
+) -> Begin<'a>
+    ensures run { result.run ≡ names.now.run }
+    ensures file { result.file ≡ start.entry.file }
+    ensures sum { result.sum ≡ Some start.entry.sum }
+    ensures before { NamesIfAny (option_copied start.entry.before) result.before }
+    ensures lanes { result.lanes.items ≡ lanes.entry.items }
+{
+    let sum = Some(start.sum);
+    Begin {
+        run: names.run,
+        time,
+        version: VERSION,
+        file: start.file,
+        sum,
+        before: file_before(start.before),
+        lanes,
+    }
+}
+
+/// Returns a file that was found, as a line names it.
+fn file_before(found: Option<&FoundFile>) -> Option<FileBefore<'_>>
+    ensures { NamesIfAny (option_copied found.entry) result }
+{
+    let found = found?;
+    let sha256 = found.sha256;
+    Some(FileBefore {
+        name: found.name.as_str(),
+        octets: found.octets,
+        sha256,
+    })
 }
 
 /// Returns the run's lanes, each with the serial of its next entry.
@@ -257,13 +328,16 @@ fn lane_starts<'a>(
     alloc: Global,
     names: &'a RunNames,
     next: &[u64],
-) -> Result<Vec<LaneStart<'a>>, AllocError> {
+) -> Result<Vec<LaneStart<'a>>, AllocError>
+    ensures { IfOk result (λ lanes. AreStarts names.now.homes.items next.now lanes.items) }
+{
     let mut lanes = Vec::with_capacity(alloc, names.homes.len())?;
-    for (lane, home) in names.homes.iter().enumerate() {
+    for lane in 0..names.homes.len() {
+        let serial = serial_at(next, lane);
         lanes.push(LaneStart {
-            lane: u16::try_from(lane).unwrap_or(u16::MAX),
-            home: home.as_str(),
-            serial: serial_at(next, lane),
+            lane: number_of(lane),
+            home: names.homes[lane].as_str(),
+            serial,
         })?;
     }
     Ok(lanes)
@@ -279,27 +353,45 @@ fn lane_counts(
     alloc: Global,
     names: &RunNames,
     counts: &RunCounts,
-) -> Result<Vec<LaneCount>, AllocError> {
+) -> Result<Vec<LaneCount>, AllocError>
+    ensures { IfOk result (λ lanes. AreCounted (length names.now.homes.items) lanes.items) }
+{
     let mut lanes = Vec::with_capacity(alloc, names.homes.len())?;
     for lane in 0..names.homes.len() {
-        let (accepted, left) = match counts.end_of_lane(lane) {
-            Some((accepted, left)) => (Some(accepted), Some(left)),
-            None => (None, None),
-        };
-        lanes.push(LaneCount {
-            lane: u16::try_from(lane).unwrap_or(u16::MAX),
-            entries: counts.of_lane(lane),
-            accepted,
-            left,
-        })?;
+        let end = counts.end_of_lane(lane);
+        lanes.push(count_of(lane, counts.of_lane(lane), end))?;
     }
     Ok(lanes)
+}
+
+/// Returns a lane, with how many responses of it were taken, and, once that was told, how many requests it accepted and
+/// how many of them are left.
+fn count_of(lane: usize, entries: u64, end: Option<(u64, u64)>) -> LaneCount
+    ensures { result ≡ count_in lane entries end }
+{
+    let (accepted, left) = match end {
+        Some((accepted, left)) => (Some(accepted), Some(left)),
+        None => (None, None),
+    };
+    LaneCount {
+        lane: number_of(lane),
+        entries,
+        accepted,
+        left,
+    }
+}
+
+/// Returns a lane's number, as a line has it.
+fn number_of(lane: usize) -> u16
+    ensures { result ≡ lane_number lane }
+{
+    u16::try_from(lane).unwrap_or(u16::MAX)
 }
 
 /// Returns a lane's next serial.
 fn serial_at(next: &[u64], lane: usize) -> u64
     ensures bounded { result < 2 ^ 63 }
-    ensures value { MatchOption (slice_get next.now lane) (result ≡ 0) (λ serial. serial < 2 ^ 63 → result ≡ serial) }
+    ensures value { result ≡ serial_in (slice_get next.now lane) }
 {
     match next.get(lane) {
         Some(serial) => (*serial).min(GREATEST_SERIAL),
@@ -307,7 +399,7 @@ fn serial_at(next: &[u64], lane: usize) -> u64
     }
 }
 
-/// Writes the line that ends the run behind what these octets are.
+/// Writes the line that ends the run behind what these octets are. This is the sum of the lines before it.
 ///
 /// # Errors
 ///
@@ -316,16 +408,19 @@ pub(crate) fn end_line(
     alloc: Global,
     names: &RunNames,
     time: u64,
+    sum: [u8; SUM_OCTETS],
     counts: &RunCounts,
     out: Vec<u8>,
 ) -> Result<Vec<u8>, AllocError>
-    ensures { IfOk result (λ all. HasLineBehind out.items all.items) }
+    ensures line { IfOk result (λ all. HasLineBehind out.items all.items) }
+    ensures end { IfOk result (λ all. EndsBehind names.now sum out.items all.items) }
 {
     let time = time_text(alloc, time)?;
     let lanes = lane_counts(alloc, names, counts)?;
     let end = End {
         run: names.run,
         time: time.as_str(),
+        sum: Some(sum),
         lanes,
     };
     write_end(alloc, &end, out)

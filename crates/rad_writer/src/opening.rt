@@ -1,23 +1,26 @@
 //! Opening a ledger: the buffer, and the thread that writes what passes through it.
 
 ghost use Rattle.std.specs.Prelude.{◌≡◌, [], length, vec_len, IfOk};
+ghost use Rattle.rad_writer.specs.Buffer.{HasRoom};
 ghost use Rattle.rad_writer.specs.RunNames.{AreNamesOf};
 
 use crate::counts::RunCounts;
 use crate::entry_buffer::EntryBuffer;
-use crate::filling::{LINE, new_batch};
-use crate::inlet::{LedgerInlet, time_since_1970};
-use crate::parcel::MOST;
+use crate::filling::new_batch;
+use crate::giving::ParcelGiver;
+use crate::inlet::LedgerInlet;
 use crate::run_names::RunNames;
 use crate::writer::{LedgerWriter, LineSource};
 use ledger_files::LedgerDisk;
+use ledger_lines::MOST_LINE_OCTETS;
 use rad_desk::Handed;
 use rad_log::Log;
-use rad_metrics::{LedgerFault, LedgerState, log_ledger_fault};
+use rad_metrics::{LedgerFault, LedgerState, log_ledger_fault, time_since_1970};
 use rad_realms::{Config, Home};
-use rtrb::{Consumer, Producer, RingBuffer};
+use rtrb::RingBuffer;
 use std::alloc::{AllocError, AllocGlobal, Global};
 use std::env::{self, Env, VarError};
+use std::marker::Sync;
 use std::random::RandomSource;
 use std::sync::{Arc, Wait};
 use std::thread::{self, Threads};
@@ -26,8 +29,11 @@ use std::time::{Clock, Duration};
 /// The environment variable that names the folder of the ledger.
 const LEDGER: &str = "RAD_PROXY_LEDGER";
 
-/// How many octets of entries may wait in the buffer.
+/// How many octets of packets may wait in the buffer.
 const ROOM: usize = 67_108_864;
+
+/// How many entries may wait in the buffer.
+const PLACES: usize = 180_000;
 
 /// A ledger that is open: the front's end, the writer's end, and what they and the reporter share.
 #[derive(Drop)]
@@ -74,6 +80,7 @@ pub fn open_ledger<'a, R: Clock + RandomSource>(
     longest: Duration,
 ) -> Result<OpenedLedger<'a, R>, AllocError>
     ensures kept { IfOk result (λ opened. opened.inlet.handed.responses ≡ []) }
+    ensures room { IfOk result (λ opened. HasRoom 67108864 180000 opened.inlet.giver) }
     ensures folder { IfOk result (λ opened. opened.writer.source.folder ≡ folder) }
     ensures names { IfOk result (λ opened. AreNamesOf config.now.homes opened.writer.source.names.homes.items) }
     ensures lanes { IfOk result (λ opened. vec_len opened.writer.source.next ≡ length config.now.homes) }
@@ -83,14 +90,14 @@ pub fn open_ledger<'a, R: Clock + RandomSource>(
         counts: Arc::new(alloc, RunCounts::new(alloc, lanes)?)?,
         state: Arc::new(alloc, LedgerState::new(alloc, lanes)?)?,
     };
-    let (producer, consumer) = RingBuffer::new(alloc, ROOM)?;
-    let inlet = open_inlet(rt, alloc, producer, &shared, longest)?;
+    let (giver, entries) = open_buffer(alloc)?;
+    let inlet = open_inlet(rt, giver, &shared, longest)?;
     let source = open_source(
         alloc,
         draw_name(rt),
         folder,
         config.homes(),
-        consumer,
+        entries,
         &shared,
     )?;
     let batch = new_batch(alloc)?;
@@ -109,26 +116,39 @@ struct Shared {
     state: Arc<LedgerState>,
 }
 
-/// Makes the front's end over this end of the buffer.
+/// Makes the two ends of the buffer: of a ring of packets, and of a ring of their heads.
+///
+/// # Errors
+///
+/// `AllocError` if memory is refused.
+fn open_buffer(alloc: Global) -> Result<(ParcelGiver, EntryBuffer), AllocError>
+    ensures { IfOk result (λ ends. HasRoom 67108864 180000 ends.0) }
+{
+    let (packets, taken_packets) = RingBuffer::new(alloc, ROOM)?;
+    let (heads, taken_heads) = RingBuffer::new(alloc, PLACES)?;
+    let entries = EntryBuffer::new(alloc, taken_packets, taken_heads)?;
+    Ok((ParcelGiver::new(packets, heads), entries))
+}
+
+/// Makes what the front puts into this end of the buffer.
 ///
 /// # Errors
 ///
 /// `AllocError` if memory is refused.
 fn open_inlet<'a, R: Clock>(
     rt: &'a R,
-    alloc: Global,
-    buffer: Producer<u8, Global>,
+    giver: ParcelGiver,
     shared: &Shared,
     longest: Duration,
 ) -> Result<LedgerInlet<'a, R>, AllocError>
-    ensures { IfOk result (λ inlet. inlet.handed.responses ≡ []) }
+    ensures kept { IfOk result (λ inlet. inlet.handed.responses ≡ []) }
+    ensures giver { IfOk result (λ inlet. inlet.giver ≡ giver) }
 {
     Ok(LedgerInlet {
         clock: rt,
         longest,
         time: 0,
-        parcel: Vec::with_capacity(alloc, MOST)?,
-        buffer,
+        giver,
         counts: Arc::try_clone(&shared.counts)?,
         state: Arc::try_clone(&shared.state)?,
         handed: Handed::new(),
@@ -145,7 +165,7 @@ fn open_source(
     run: u64,
     folder: String,
     homes: &[Home],
-    buffer: Consumer<u8, Global>,
+    entries: EntryBuffer,
     shared: &Shared,
 ) -> Result<LineSource, AllocError>
     ensures folder { IfOk result (λ source. source.folder ≡ folder) }
@@ -155,8 +175,8 @@ fn open_source(
     Ok(LineSource {
         folder,
         names: RunNames::new(alloc, run, homes)?,
-        entries: EntryBuffer::new(alloc, buffer)?,
-        room: Vec::with_capacity(alloc, LINE)?,
+        entries,
+        room: Vec::with_capacity(alloc, MOST_LINE_OCTETS)?,
         next: zeros(alloc, homes.len())?,
         from: zeros(alloc, homes.len())?,
         first: zeros(alloc, homes.len())?,
@@ -191,7 +211,7 @@ fn draw_name<R: Clock + RandomSource>(rt: &R) -> u64 {
 /// Starts the thread that writes to this disk, and returns whether that succeeded. No thread joins it: it ends with the program.
 pub fn start_writer<R, D>(rt: &R, alloc: Global, writer: LedgerWriter, disk: D) -> bool
 where
-    R: Clock + Threads + Wait + Copy + Send + 'static,
+    R: Clock + Threads + Wait + Sync + Copy + Send + 'static,
     D: LedgerDisk + Drop + Send + 'static,
 {
     let own = *rt;

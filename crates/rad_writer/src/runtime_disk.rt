@@ -1,9 +1,11 @@
 //! The files of a ledger, on the disks of a runtime.
 
-use ledger_files::{DiskFault, LedgerDisk};
+use crate::file_before::find_file;
+use ledger_files::{DiskFault, FoundFile, LedgerDisk};
 use rad_metrics::system_number;
+use std::alloc::{AllocGlobal, Global};
 use std::fs::{self, Files, Metadata, OpenFile, OpenOptions, Permissions};
-use std::io::{self, ErrorKind, Write};
+use std::io::{self, ErrorKind, Read, Write};
 use std::os::unix::fs::{MetadataExt, OpenOptionsExt, PermissionsExt};
 
 /// Who may read and write a file: its owner may do both, and its group may read it.
@@ -76,7 +78,11 @@ fn create_fault(error: io::Error) -> DiskFault {
     DiskFault::Create(system_number(&error))
 }
 
-impl<R: Files<File = F>, F: Write + OpenFile + Drop> LedgerDisk for RuntimeDisk<R, F> {
+impl<R, F> LedgerDisk for RuntimeDisk<R, F>
+where
+    R: Files<File = F> + AllocGlobal + Copy,
+    F: Read + Write + OpenFile + Drop,
+{
     /// The file has its mode whatever the umask. If its mode can't be set or the file can't be looked at, the next call
     /// with the same path goes on with it.
     fn create(&mut self, path: String) -> Result<(), DiskFault> {
@@ -134,6 +140,10 @@ impl<R: Files<File = F>, F: Write + OpenFile + Drop> LedgerDisk for RuntimeDisk<
             Err(error) if error.kind() == ErrorKind::Interrupted => Ok(0),
             Err(error) => Err(DiskFault::Write(system_number(&error))),
         }
+    }
+
+    fn find_before(&self, alloc: Global, folder: &str, run: u64) -> Option<FoundFile> {
+        find_file(&self.rt, alloc, folder, run)
     }
 
     fn sync(&mut self) -> Result<(), DiskFault> {

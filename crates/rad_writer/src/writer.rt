@@ -1,21 +1,22 @@
 //! The thread that writes the entries to files.
 
-ghost use Rattle.std.specs.Prelude.{◌≡◌, [], vec_len};
+ghost use Rattle.std.specs.Prelude.{◌≡◌, ◌≤◌, ◌+◌, [], ◌∷◌, slice_range, vec_len};
+ghost use Rattle.std.specs.Int.{from_be_bytes, w64};
 ghost use Rattle.ledger_files.specs.Batches.{HoldsLines};
 
 use crate::counts::RunCounts;
 use crate::entry_buffer::EntryBuffer;
-use crate::filling::fill;
-use crate::inlet::time_since_1970;
-use crate::lines::{begin_line, end_line};
+use crate::lines::{FileStart, begin_line, end_line};
 use crate::run_names::RunNames;
 use ledger_files::{
-    Batch, DiskFault, FileDay, FileName, LedgerDisk, LineHead, OpenFile, RunFiles, date_of, day_of,
-    is_next_due,
+    Batch, DiskFault, FileDay, FileName, FoundFile, LedgerDisk, LineHead, OpenFile, RunFiles,
+    SUM_OCTETS, date_of, day_of, is_next_due,
 };
-use rad_metrics::{LedgerFault, LedgerState};
+use rad_metrics::{FileSum, LedgerFault, LedgerState, time_since_1970};
 use std::alloc::{AllocError, Global};
+use std::marker::Sync;
 use std::sync::{Arc, Wait};
+use std::thread::Threads;
 use std::time::{Clock, Duration, Instant};
 
 /// How many milliseconds the thread sleeps between two rounds.
@@ -28,8 +29,11 @@ const AGAIN: u64 = 1000;
 /// late by at most its own writes and [`PAUSE`].
 const SYNC: u64 = 900;
 
-/// How many milliseconds pass at least between two files that are begun since the one before can't be synced.
+/// How many milliseconds pass at least between two files that are begun since the one before can't be synced, or begun.
 const ANEW: u64 = 60_000;
+
+/// How many milliseconds after the sum was told it is told again.
+const TOLD: u64 = 3_600_000;
 
 /// What the thread that writes a ledger has, before it is started.
 #[derive(Drop)]
@@ -80,15 +84,26 @@ struct Session<'a, R, D: Drop> {
     sync_fault: Option<LedgerFault>,
     /// Whether something was written since the last sync that held.
     is_unsynced: bool,
-    /// When a file was begun last since the one before could not be synced.
+    /// When a file was begun last since the one before could not be synced, or begun.
     anew: Option<Instant>,
+    /// How many entries were written.
+    entries: u64,
+    /// The file of another run that was written last, as the first file names it.
+    before: Option<FoundFile>,
+    /// When the sum was told last.
+    told: Option<Instant>,
     /// When the thread began, if the clock could be read.
     began: Option<Instant>,
 }
 
 impl LedgerWriter {
     /// Writes the entries as they come, until the ledger is ended and all is written. The thread does nothing else.
-    pub fn write_all<R: Clock + Wait, D: LedgerDisk + Drop>(self, rt: &R, alloc: Global, disk: D) {
+    pub fn write_all<R: Clock + Wait + Threads + Sync, D: LedgerDisk + Drop>(
+        self,
+        rt: &R,
+        alloc: Global,
+        disk: D,
+    ) {
         let LedgerWriter { source, batch } = self;
         let began = Instant::now(rt).ok();
         let mut session = Session {
@@ -104,12 +119,16 @@ impl LedgerWriter {
             sync_fault: None,
             is_unsynced: false,
             anew: None,
+            entries: 0,
+            before: None,
+            told: None,
             began,
         };
         for _ in rt.forever() {
             let is_last = session.source.state.begin_round();
             session.do_round(is_last);
             if is_last && !session.is_failing {
+                session.tell_sum();
                 session.source.state.finish();
                 return;
             }
@@ -120,30 +139,6 @@ impl LedgerWriter {
 }
 
 impl LineSource {
-    /// Makes lines of the next entries, as [`fill`] does.
-    ///
-    /// # Errors
-    ///
-    /// `AllocError` if memory is refused.
-    fn fill<D: LedgerDisk + Drop>(
-        &mut self,
-        files: &mut RunFiles<D>,
-        alloc: Global,
-        day: u64,
-    ) -> Result<(), AllocError>
-        requires written { files.old.batch.whole ≡ vec_len files.old.batch.ends }
-        requires goes_on { vec_len files.old.last.octets ≡ 0 }
-    {
-        fill(
-            files,
-            &mut self.room,
-            alloc,
-            &self.names,
-            &mut self.entries,
-            day,
-        )
-    }
-
     /// Counts an entry of this lane and serial as written to the file that is open.
     fn pass(&mut self, lane: u16, serial: u64) {
         self.state.write(lane, serial);
@@ -173,7 +168,7 @@ impl LineSource {
     }
 }
 
-impl<R: Clock, D: LedgerDisk + Drop> Session<'_, R, D> {
+impl<R: Clock + Threads + Sync, D: LedgerDisk + Drop> Session<'_, R, D> {
     /// Writes what there is, and reports whether that failed. After a fault it goes on where it stopped, at first in the
     /// same file. If that fails again, or the file is no longer there, it begins the next file.
     fn do_round(&mut self, is_last: bool) {
@@ -192,19 +187,25 @@ impl<R: Clock, D: LedgerDisk + Drop> Session<'_, R, D> {
         }
     }
 
-    /// Returns whether the next file is to be begun after a fault. One that can't be synced is given up at most once a
-    /// minute.
+    /// Returns whether the next file is to be begun after a fault. One that can't be synced, or whose first line is not
+    /// written whole, is given up at most once a minute.
     fn gives_up(&mut self, fault: LedgerFault, was_failing: bool) -> bool {
         let is_again = was_failing && self.files.disk().size() > 0;
         match fault {
             LedgerFault::Gone => true,
-            LedgerFault::Sync(_) if is_again && self.is_past(self.anew, ANEW) => {
-                self.anew = Instant::now(self.rt).ok();
-                true
-            }
-            LedgerFault::Sync(_) => false,
-            _ => is_again,
+            LedgerFault::Sync(_) => is_again && self.is_anew(),
+            _ if self.files.is_begun() => is_again,
+            _ => is_again && self.is_anew(),
         }
+    }
+
+    /// Returns whether a minute has passed since this was so last.
+    fn is_anew(&mut self) -> bool {
+        let is_past = self.is_past(self.anew, ANEW);
+        if is_past {
+            self.anew = Instant::now(self.rt).ok();
+        }
+        is_past
     }
 
     /// Returns whether so many milliseconds have passed since a moment, if there is one. If the clock can't be read, they
@@ -243,9 +244,9 @@ impl<R: Clock, D: LedgerDisk + Drop> Session<'_, R, D> {
             return Ok(());
         }
         for _ in 0..u64::MAX {
-            self.fill()?;
+            self.make_lines()?;
             self.have_file()?;
-            let is_done = self.files.batch().is_done();
+            let is_done = self.files.batch().is_done() && self.files.is_begun();
             if is_done && is_last {
                 self.make_last_line()?;
             }
@@ -257,6 +258,9 @@ impl<R: Clock, D: LedgerDisk + Drop> Session<'_, R, D> {
             }
             outcome?;
             if is_done {
+                if self.told.is_some() && self.is_past(self.told, TOLD) {
+                    self.tell_sum();
+                }
                 return match self.sync_fault {
                     Some(fault) => Err(fault),
                     None => Ok(()),
@@ -266,14 +270,15 @@ impl<R: Clock, D: LedgerDisk + Drop> Session<'_, R, D> {
         Ok(())
     }
 
-    /// Makes lines of the next entries, if all lines before them are written.
-    fn fill(&mut self) -> Result<(), LedgerFault> {
+    /// Makes lines of the next entries, if all lines before them are written, and digests them.
+    fn make_lines(&mut self) -> Result<(), LedgerFault> {
         if self.files.batch().is_done() && !self.files.is_ended() {
             let alloc = self.alloc;
             let day = self.file.day;
             if self.source.fill(&mut self.files, alloc, day).is_err() {
                 return Err(LedgerFault::Memory);
             }
+            let _ = self.files.digest(self.rt);
         }
         self.source.state.set_oldest(self.oldest());
         Ok(())
@@ -352,6 +357,7 @@ impl<R: Clock, D: LedgerDisk + Drop> Session<'_, R, D> {
     /// Begins the next file, for entries of this day. The line of an entry that was not written whole is written to it from
     /// its start. If the file before is no longer at its path, its entries are lost.
     fn begin_file(&mut self, day: u64) -> Result<(), LedgerFault> {
+        self.find_before();
         let now = self.read_time();
         let disk = self.files.disk();
         let is_gone = disk.is_open() && disk.check_place().is_err();
@@ -361,11 +367,40 @@ impl<R: Clock, D: LedgerDisk + Drop> Session<'_, R, D> {
         let Ok(line) = self.first_line(now, is_gone) else {
             return Err(LedgerFault::Memory);
         };
-        self.files.begin_file(path, line).map_err(ledger_fault)?;
+        let alloc = self.alloc;
+        self.files
+            .begin_file(alloc, path, line)
+            .map_err(ledger_fault)?;
         self.source.leave_file(is_gone);
         self.number = self.number.saturating_add(1);
         self.file.day = self.file.day.max(day);
+        self.before = None;
+        self.tell_sum();
         Ok(())
+    }
+
+    /// Finds the file of another run that was written last, if the first file is to be begun and it is not found yet.
+    fn find_before(&mut self) {
+        if self.number == 0 && self.before.is_none() {
+            let folder = self.source.folder.as_str();
+            let run = self.source.names.run;
+            self.before = self.files.disk().find_before(self.alloc, folder, run);
+        }
+    }
+
+    /// Tells the sum of the lines that were written, to be logged, if there is a file. It is that before the file's first
+    /// line if this is not written yet.
+    fn tell_sum(&mut self) {
+        if self.number == 0 {
+            return;
+        }
+        self.told = Instant::now(self.rt).ok();
+        self.source.state.tell_sum(FileSum {
+            run: self.source.names.run,
+            file: self.number.saturating_sub(1),
+            entries: self.entries,
+            sum: words_of(self.files.sum()),
+        });
     }
 
     /// Returns the path of the next file, whose first line has this time.
@@ -386,11 +421,16 @@ impl<R: Clock, D: LedgerDisk + Drop> Session<'_, R, D> {
         } else {
             &self.source.next
         };
+        let sum = self.files.sum();
         begin_line(
             self.alloc,
             &self.source.names,
             now,
-            self.number,
+            FileStart {
+                file: self.number,
+                sum,
+                before: self.before.as_ref(),
+            },
             serials.as_slice(),
             Vec::new(self.alloc),
         )
@@ -406,6 +446,7 @@ impl<R: Clock, D: LedgerDisk + Drop> Session<'_, R, D> {
             self.alloc,
             &self.source.names,
             now,
+            self.files.sum(),
             &self.source.counts,
             Vec::new(self.alloc),
         );
@@ -459,6 +500,7 @@ impl<R: Clock, D: LedgerDisk + Drop> Session<'_, R, D> {
                 None => left = left.saturating_add(1),
             }
         }
+        self.entries = self.entries.saturating_add(entries);
         self.source.state.count_written(entries);
         self.source.state.count_left_written(left);
     }
@@ -495,6 +537,28 @@ fn put_at(numbers: &mut Vec<u64>, lane: usize, number: u64) {
     if let Some(place) = numbers.get_mut(lane) {
         *place = number;
     }
+}
+
+/// Returns a sum, as four numbers of eight octets each.
+fn words_of(sum: [u8; SUM_OCTETS]) -> [u64; 4]
+    ensures { result ≡ from_be_bytes w64 (slice_range sum 0 8) ∷ from_be_bytes w64 (slice_range sum 8 16) ∷ from_be_bytes w64 (slice_range sum 16 24) ∷ from_be_bytes w64 (slice_range sum 24 32) ∷ [] }
+{
+    [
+        word_at(&sum, 0),
+        word_at(&sum, 8),
+        word_at(&sum, 16),
+        word_at(&sum, 24),
+    ]
+}
+
+/// Returns the number that the eight octets from a place on are.
+fn word_at(sum: &[u8; SUM_OCTETS], place: usize) -> u64
+    requires { place ≤ 24 }
+    ensures { result ≡ from_be_bytes w64 (slice_range sum.now place (place + 8)) }
+{
+    let mut octets = [0; 8];
+    octets.copy_from_slice(&sum[place..place + 8]);
+    u64::from_be_bytes(octets)
 }
 
 /// Returns the fault of the ledger that a fault of its disk is.

@@ -5,7 +5,7 @@ use crate::comparing::holds;
 use crate::configured::configured;
 use crate::desk::making::{reply_to, request};
 use crate::desk::setting::{CLIENT, start};
-use rad_auth::{Secret, check_response};
+use rad_auth::{Mark, Secret, check_response};
 use rad_desk::{Inlet, LaneEnd, Proxy, Rest, open};
 use rad_lane::{Action, Entry, Outgoing, Taken};
 use rad_packet::{Datagram, read};
@@ -66,11 +66,12 @@ impl Fates {
         }
     }
 
-    /// Counts the request that a response answers: the one whose Authenticator it is valid for.
+    /// Counts the request that a response answers: the one whose Authenticator it is valid for. Its number is in the mark.
     fn find_answered(&mut self, response: &Outgoing) -> bool {
         for count in 0..REQUESTS {
             if answers(response, count) == Some(true) {
-                return self.find(u64::from(count));
+                let number = u64::from(count);
+                return response.reply.mark() == Mark { lane: 0, number } && self.find(number);
             }
         }
         false

@@ -5,7 +5,7 @@ use crate::configured::configured;
 use crate::desk::making::{reply_to, request};
 use crate::desk::setting::{CLIENT, TEXT, start};
 use crate::desk::threads::close;
-use rad_desk::{Inlet, Ledger, LeftRecord, LeftState, Proxy, open, tell_left};
+use rad_desk::{Inlet, Ledger, LeftRecord, LeftState, Proxy, Wire, open, tell_left};
 use rad_lane::{Action, Counts, Outgoing, Taken};
 use rad_packet::Datagram;
 use rad_realms::{Config, Incoming, check_in};
@@ -42,7 +42,7 @@ impl Comparer {
 }
 
 impl Ledger for Comparer {
-    fn keep(&mut self, _outgoing: &Outgoing) {
+    fn keep<W: Wire>(&mut self, _outgoing: &Outgoing, _wire: &W) {
         self.is_right = false;
     }
 
@@ -83,14 +83,8 @@ fn is_next(told: &LeftRecord<'_>, place: usize) -> bool {
         && told.request == made.bytes()
 }
 
-/// Has the requests accepted, sent and answered, and the first response taken.
-fn live(
-    rt: &impl Wait,
-    alloc: Global,
-    proxy: &Proxy,
-    config: &Config,
-    inlet: &mut Inlet,
-) -> Option<()> {
+/// Has four requests accepted, three of them sent, and two answered.
+pub fn live(rt: &impl Wait, alloc: Global, proxy: &Proxy, config: &Config) -> Option<()> {
     let mut datagram = Datagram::new();
     for count in 0..4 {
         let made = request(count)?;
@@ -119,7 +113,6 @@ fn live(
             proxy.hear(rt, alloc, 0, start(), 0, reply.bytes()).ok()?;
         }
     }
-    inlet.take()?;
     Some(())
 }
 
@@ -152,7 +145,7 @@ fn each_request_that_is_left_is_told_again_after_a_refused_growth(
     let config = configured(rt.alloc(), TEXT)?;
     let (proxy, mut inlets) = open(rt.alloc(), &config)?;
     let is_led = match inlets.as_mut_slice().first_mut() {
-        Some(inlet) => live(&rt, rt.alloc(), &proxy, &config, inlet).is_some(),
+        Some(inlet) => live(&rt, rt.alloc(), &proxy, &config).is_some() && inlet.take().is_some(),
         None => false,
     };
     let is_told = tells(rt.alloc(), proxy, inlets);

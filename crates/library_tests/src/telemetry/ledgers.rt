@@ -3,7 +3,7 @@
 use crate::comparing::holds;
 use crate::telemetry::logs::{MemoryLog, has_logged, log_up_to};
 use rad_log::LevelFilter;
-use rad_telemetry::{LedgerFault, LedgerState};
+use rad_telemetry::{FileSum, LedgerFault, LedgerState};
 use std::alloc::Global;
 use std::test::Fail;
 use std::time::Clock;
@@ -27,6 +27,8 @@ enum Step {
     GoOn,
     /// Entries of a lane are lost, so many, from one serial to another.
     Lose(u16, u64, u64, u64),
+    /// The sum of this file and so many entries is told.
+    Sum(u64, u64),
     /// What happened is logged.
     Tell,
     /// A request is told as left.
@@ -62,6 +64,8 @@ const STEPS: &[Step] = &[
     Step::Lose(0, 2, 0, 1),
     Step::Lose(1, 1, 11, 11),
     Step::Lose(2, 1, 0, 0),
+    Step::Sum(7, 65),
+    Step::Sum(8, 66),
     Step::Tell,
     Step::HandOver(0, 0),
     Step::HandOver(1, 8),
@@ -99,6 +103,8 @@ const LINES: &str =
     event=ledger-back\n\
     event=ledger-lost lane=0 count=2 from=0 to=1\n\
     event=ledger-lost lane=1 count=4 from=7 to=11\n\
+    event=ledger-file run=00000000000000ab file=7 entries=65 sum=0000000000000001000000000000000f0123456789abcdefffffffffffffffff\n\
+    event=ledger-file run=00000000000000ab file=8 entries=66 sum=0000000000000001000000000000000f0123456789abcdefffffffffffffffff\n\
     event=ledger-left count=2\n\
     event=ledger-missing lane=0 from=0 to=0\n\
     event=ledger-missing lane=1 from=8 to=9\n\
@@ -136,6 +142,12 @@ fn happen(rt: &impl Clock, ledger: &LedgerState, log: &MemoryLog, step: Step) {
         Step::Fail(fault) => ledger.fail(fault),
         Step::GoOn => ledger.goes_on(),
         Step::Lose(lane, count, from, to) => ledger.lose(lane, count, from, to),
+        Step::Sum(file, entries) => ledger.tell_sum(FileSum {
+            run: 0xab,
+            file,
+            entries,
+            sum: [1, 15, 0x0123_4567_89ab_cdef, u64::MAX],
+        }),
         Step::Tell => ledger.tell(log),
         Step::Leave => {
             let _ = ledger.count_left(rt);

@@ -99,12 +99,13 @@ fn report<R: Clock>(telemetry: &Telemetry<'_, MemoryLog, R>) -> bool {
 
 /// Returns whether a lane is asked for its standing once all are, until it has told it.
 fn asks_until_told<R: Clock>(telemetry: &Telemetry<'_, MemoryLog, R>) -> bool {
-    let before = telemetry.asks(0);
+    let before = telemetry.asks(0).standing;
     telemetry.numbers().ask_each();
     let moment = Moment::new(5067).unwrap();
     let standing = EMPTY;
     telemetry.report(Worker::Lane(0), &WorkerReport::Stands { moment, standing });
-    !before && !telemetry.asks(0) && telemetry.asks(1) && !telemetry.asks(2)
+    let after = (telemetry.asks(0), telemetry.asks(1), telemetry.asks(2));
+    !before && !after.0.standing && after.1.standing && !after.2.standing
 }
 
 /// Returns whether both is so of a telemetry over this log.

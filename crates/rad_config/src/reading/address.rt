@@ -74,15 +74,6 @@ pub(crate) fn read_endpoint(text: &str) -> Option<Endpoint>
     Some(Endpoint { address, port })
 }
 
-/// Splits a text at the first delimiter, an ASCII character.
-#[tactic(auto, unfolding(crate::specs::Address::around_first))]
-fn split_around(text: &str, delimiter: char) -> Option<(&str, &str)>
-    requires { delimiter < 128 }
-    ensures { option_map (λ parts. (parts.0.now, parts.1.now)) result ≡ around_first delimiter text.now }
-{
-    text.split_once(delimiter)
-}
-
 /// Reads a text as a number from 0 to 255.
 #[tactic(auto, unfolding(crate::specs::Address::number_in))]
 fn read_octet(text: &str) -> Option<u8>
@@ -116,14 +107,23 @@ fn is_number_text(text: &[u8]) -> bool
     are_digits(text)
 }
 
-/// Whether all of these octets are digits.
+/// For the proof: splits a text at the first delimiter, an ASCII character.
+#[tactic(auto, unfolding(crate::specs::Address::around_first))]
+fn split_around(text: &str, delimiter: char) -> Option<(&str, &str)>
+    requires { delimiter < 128 }
+    ensures { option_map (λ parts. (parts.0.now, parts.1.now)) result ≡ around_first delimiter text.now }
+{
+    text.split_once(delimiter)
+}
+
+/// For the proof: whether all of these octets are digits.
 fn are_digits(text: &[u8]) -> bool
     ensures { result ≡ list_all is_ascii_digit text.now }
 {
     text.iter().all(|octet| octet.is_ascii_digit())
 }
 
-/// Parses digits as a number below 65536.
+/// For the proof: parses digits as a number below 65536.
 fn parse_number(text: &str) -> Option<u16>
     requires { is_number text.now ≡ true }
     ensures { MatchOption result (2 ^ 16 ≤ digits_value 10 text.now) (λ number. number ≡ digits_value 10 text.now) }

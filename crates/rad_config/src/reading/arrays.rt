@@ -68,13 +68,6 @@ fn are_tables(values: &[Value]) -> bool
     is_each_table(values)
 }
 
-/// Whether each value is a table.
-fn is_each_table(values: &[Value]) -> bool
-    ensures { IsTrue result ↔ All IsTable values.now }
-{
-    values.iter().all(|value| value.is_table())
-}
-
 /// Whether a value is an empty array.
 fn is_empty_array_value(value: &Value) -> bool
     ensures { result ≡ is_empty_array (view value.now) }
@@ -91,4 +84,11 @@ pub(crate) fn table(value: &Value) -> &Table
     ensures { table_view result.now ≡ table_of value.now }
 {
     value.as_table().unwrap()
+}
+
+/// For the proof: whether each value is a table.
+fn is_each_table(values: &[Value]) -> bool
+    ensures { IsTrue result ↔ All IsTable values.now }
+{
+    values.iter().all(|value| value.is_table())
 }

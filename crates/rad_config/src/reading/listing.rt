@@ -318,13 +318,6 @@ fn is_among(tables: &[Value], key: Key, text: &str) -> bool
     has_any_text(tables, key, text)
 }
 
-/// Whether one of these values is a table that has this text at a key.
-fn has_any_text(values: &[Value], key: Key, text: &str) -> bool
-    ensures { result ≡ list_any (λ v. is_text (λ other. bytes_eq other text.now) (text_of key (table_of v))) values.now }
-{
-    values.iter().any(|value| has_text(value, key, text))
-}
-
 /// Whether a table has this text at a key.
 fn has_text(value: &Value, key: Key, text: &str) -> bool
     ensures { result ≡ is_text (λ other. bytes_eq other text.now) (text_of key (table_of value.now)) }
@@ -340,13 +333,6 @@ fn is_realm_among(tables: &[Value], name: &str) -> bool
     ensures { result ≡ realm_stands_among (tables_of_values tables.now) name.now }
 {
     has_any_realm(tables, name)
-}
-
-/// Whether one of these values is a table that has this realm's name.
-fn has_any_realm(values: &[Value], name: &str) -> bool
-    ensures { result ≡ list_any (λ v. is_text (λ other. str_eq_ignore_ascii_case other name.now) (text_of Key.Name (table_of v))) values.now }
-{
-    values.iter().any(|value| has_realm(value, name))
 }
 
 /// Whether a table has this realm's name.
@@ -377,4 +363,18 @@ fn text_at_key(key: Key, doc: &Table) -> Option<&str>
         Some(value) => value.as_str(),
         None => None,
     }
+}
+
+/// For the proof: whether one of these values is a table that has this text at a key.
+fn has_any_text(values: &[Value], key: Key, text: &str) -> bool
+    ensures { result ≡ list_any (λ v. is_text (λ other. bytes_eq other text.now) (text_of key (table_of v))) values.now }
+{
+    values.iter().any(|value| has_text(value, key, text))
+}
+
+/// For the proof: whether one of these values is a table that has this realm's name.
+fn has_any_realm(values: &[Value], name: &str) -> bool
+    ensures { result ≡ list_any (λ v. is_text (λ other. str_eq_ignore_ascii_case other name.now) (text_of Key.Name (table_of v))) values.now }
+{
+    values.iter().any(|value| has_realm(value, name))
 }

@@ -48,7 +48,15 @@ fn read_document(alloc: Global, doc: &Table) -> Result<Config, ConfigFault>
     let homes = read_homes(alloc, doc)?;
     let realms = read_realms(alloc, &homes, doc)?;
     let default_lane = default_lane(&homes, default_home)?;
-    Ok(Config::new(listen, linger, clients, homes, realms, default_lane))
+    let config = Config {
+        listen,
+        linger,
+        clients,
+        homes,
+        realms,
+        default_lane,
+    };
+    Ok(config)
 }
 
 /// Reads the clients, 1 to 256.

@@ -1,6 +1,6 @@
 use Rattle.std.proofs.Common.{sym, ap, subst}
-use Rattle.queue_blocks.specs.Blocks.{linked_of, IsSettled}
-use Rattle.queue_blocks.proofs.Ends.{linked_none, none_linked, none_both}
+use Rattle.raw_lists.specs.Blocks.{linked_of, IsSettled}
+use Rattle.raw_lists.proofs.Ends.{linked_none, none_linked, none_both}
 use Rattle.block_queue.proofs.block_queue.appended.Goals as goal
 
 pub returns-in-Some-None : goal.returns-in-Some-None

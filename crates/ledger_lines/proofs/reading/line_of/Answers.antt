@@ -2,7 +2,7 @@ use Rattle.json.specs.Value.{value_view}
 use Rattle.ledger_lines.specs.Lines.{IsLineOf}
 use Rattle.ledger_lines.specs.declared.faults.LineFault.TheVariants.{NotALine}
 use Rattle.ledger_lines.proofs.Lines.{passed_on}
-use Rattle.ledger_lines.proofs.Types.{LineThere, no_type, entry_denied, left_denied, begin_denied, end_denied, other_denied}
+use Rattle.ledger_lines.proofs.Types.{LineThere, no_type, entry_denied, left_denied, begin_denied, end_denied, hidden_denied, other_denied}
 use Rattle.ledger_lines.proofs.reading.line_of.Goals as goal
 
 pub returns-in_err-text_at : goal.returns-in_err-text_at
@@ -67,6 +67,20 @@ returns-in_err-end_of-in-end c =
     passed_on (LineThere value fault) gone.result (IsLineOf value) fault gone.ensures.1
     (end_denied value fault c.in_ok-text_at.field-0.now c.in_ok-text_at.ensures c.in-end.is c.in_err-end_of-in-end.ensures)
 
+pub hidden_of-requires : goal.hidden_of-requires
+hidden_of-requires c = rw c.in-hidden.is at c.in_ok-text_at.ensures
+
+pub returns-in_ok-hidden_of-in-hidden : goal.returns-in_ok-hidden_of-in-hidden
+returns-in_ok-hidden_of-in-hidden c = c.in_ok-hidden_of-in-hidden.ensures
+
+pub returns-in_err-hidden_of-in-hidden : goal.returns-in_err-hidden_of-in-hidden
+returns-in_err-hidden_of-in-hidden c =
+    let value = value_view c.args.value.now in
+    let fault = c.in_err-hidden_of-in-hidden.field-0.0 in
+    let gone = c.from_residual-in_err-hidden_of-in-hidden in
+    passed_on (LineThere value fault) gone.result (IsLineOf value) fault gone.ensures.1
+    (hidden_denied value fault c.in_ok-text_at.field-0.now c.in_ok-text_at.ensures c.in-hidden.is c.in_err-hidden_of-in-hidden.ensures)
+
 pub returns-in_default : goal.returns-in_default
 returns-in_default c =
-    other_denied (value_view c.args.value.now) NotALine c.in_ok-text_at.field-0.now c.in_ok-text_at.ensures c.in_default.not-entry c.in_default.not-left c.in_default.not-begin c.in_default.not-end
+    other_denied (value_view c.args.value.now) NotALine c.in_ok-text_at.field-0.now c.in_ok-text_at.ensures c.in_default.not-entry c.in_default.not-left c.in_default.not-begin c.in_default.not-end c.in_default.not-hidden

@@ -15,7 +15,7 @@ loop-place-preserved g c =
     record {
       hands_over = λ config.
           over_join config _ _ _ _ _ _ _ _ _ (before.hands_over config)
-          (over_by_handing config _ _ _ _ within _ _ c.take.ensures.taken _ _ c.take.ensures.hands);
+          (over_by_handing config _ _ _ _ within _ _ _ _ c.take.ensures.taken c.take.ensures.hands);
       sends = most_join 0 c.loop-place.place 0 1 0 (c.loop-place.place + 1) (omega arith) (omega arith) _ _ _ before.sends (most_handed _ _ _ _ c.take.ensures.hands);
       keeps = keeps_then _ _ _ before.keeps c.take.ensures.keeps;
     }

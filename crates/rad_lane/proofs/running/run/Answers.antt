@@ -27,8 +27,8 @@ pub returns-clause-headline : goal.returns-clause-headline
 returns-clause-headline g c =
     let all = take_all c.loop-event.event-index c.args.events.now c.loop-event-test.false in
     record {
-      was_lawful = c.look_at.ensures;
-      is_lawful = c.look_at-2.ensures;
+      was_lawful = c.keep_law.ensures;
+      is_lawful = c.keep_law-2.ensures;
       each_call = rw all at c.loop-event.invariant.runs;
       none_lost = runs_lose_none _ _ _ _ _ (rw all at c.loop-event.invariant.runs);
     }

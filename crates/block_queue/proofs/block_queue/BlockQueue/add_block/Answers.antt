@@ -1,7 +1,7 @@
 use Rattle.std.proofs.Common.{◌<◌, ◌^◌, ◌∙◌, sym, ap, subst, arith, length}
 use Rattle.std.specs.Prelude.{OnOk, OnErr}
-use Rattle.queue_blocks.specs.Blocks.{linked_of, IsSettled, IsGrown}
-use Rattle.queue_blocks.proofs.Blocks.{queue_grown, queue_begun}
+use Rattle.raw_lists.specs.Blocks.{linked_of, IsSettled, IsGrown}
+use Rattle.raw_lists.proofs.Blocks.{queue_grown, queue_begun}
 use Rattle.block_queue.proofs.block_queue.BlockQueue.add_block.Goals as goal
 
 pub invariant_of-self : goal.invariant_of-self

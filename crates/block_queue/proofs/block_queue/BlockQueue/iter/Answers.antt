@@ -1,6 +1,6 @@
 use Rattle.std.specs.Map.Iter.{deref}
 use Rattle.std_collections.proofs.IterRuns.{shows_in_order}
-use Rattle.queue_blocks.proofs.Blocks.{none_chained}
+use Rattle.raw_lists.proofs.Blocks.{none_chained}
 use Rattle.block_queue.proofs.block_queue.BlockQueue.iter.Goals as goal
 
 pub new-requires-in-None : goal.new-requires-in-None

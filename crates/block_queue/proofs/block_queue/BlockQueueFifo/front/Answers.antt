@@ -1,7 +1,7 @@
 use Rattle.std.proofs.Common.{◌∙◌, ap}
-use Rattle.queue_blocks.specs.Queue.{oldest}
-use Rattle.queue_blocks.specs.Blocks.{linked_of}
-use Rattle.queue_blocks.proofs.Ends.{no_oldest}
+use Rattle.raw_lists.specs.Queue.{oldest}
+use Rattle.raw_lists.specs.Blocks.{linked_of}
+use Rattle.raw_lists.proofs.Ends.{no_oldest}
 use Rattle.block_queue.proofs.block_queue.BlockQueueFifo.front.Goals as goal
 
 pub returns-in-None : goal.returns-in-None

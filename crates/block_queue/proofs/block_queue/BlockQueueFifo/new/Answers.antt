@@ -1,5 +1,5 @@
 use Rattle.std.proofs.Common.{[], refl}
-use Rattle.queue_blocks.proofs.Blocks.{queue_new}
+use Rattle.raw_lists.proofs.Blocks.{queue_new}
 use Rattle.block_queue.proofs.block_queue.BlockQueueFifo.new.Goals as goal
 
 pub invariant_of-result : goal.invariant_of-result

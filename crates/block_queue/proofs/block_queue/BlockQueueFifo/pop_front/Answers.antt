@@ -1,6 +1,6 @@
 use Rattle.std.proofs.Common.{◌≡◌, ap, arith}
-use Rattle.queue_blocks.specs.Blocks.{linked_of}
-use Rattle.queue_blocks.proofs.Blocks.{queue_none}
+use Rattle.raw_lists.specs.Blocks.{linked_of}
+use Rattle.raw_lists.proofs.Blocks.{queue_none}
 use Rattle.block_queue.proofs.block_queue.BlockQueueFifo.pop_front.Goals as goal
 
 pub unreachable-requires : goal.unreachable-requires

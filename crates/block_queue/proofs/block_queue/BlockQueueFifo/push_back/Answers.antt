@@ -1,6 +1,6 @@
 use Rattle.std.proofs.Common.{◌≤◌, ◌<◌, ◌++◌, [], ◌∷◌, ◌∙◌, sym, ap, subst, arith, length}
-use Rattle.queue_blocks.specs.Blocks.{linked_of, pushed}
-use Rattle.queue_blocks.proofs.Blocks.{some_with_room, queue_pushed}
+use Rattle.raw_lists.specs.Blocks.{linked_of, pushed}
+use Rattle.raw_lists.proofs.Blocks.{some_with_room, queue_pushed}
 use Rattle.block_queue.proofs.block_queue.BlockQueueFifo.push_back.Goals as goal
 
 pub unreachable-requires : goal.unreachable-requires

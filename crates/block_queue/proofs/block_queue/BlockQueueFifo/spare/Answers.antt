@@ -1,6 +1,6 @@
 use Rattle.std.proofs.Common.{◌∙◌, ap}
-use Rattle.queue_blocks.specs.Blocks.{linked_of}
-use Rattle.queue_blocks.proofs.Ends.{no_room}
+use Rattle.raw_lists.specs.Blocks.{linked_of}
+use Rattle.raw_lists.proofs.Ends.{no_room}
 use Rattle.block_queue.proofs.block_queue.BlockQueueFifo.spare.Goals as goal
 
 pub returns-in-None : goal.returns-in-None

@@ -2,8 +2,8 @@ use Rattle.std.proofs.Common.{Some, Option, ◌++◌, ◌∙◌, sym, ap, subst}
 use Rattle.std.specs.Borrow.{Bor}
 use Rattle.std.specs.Map.Iter.{TakesFirst, deref}
 use Rattle.std_collections.proofs.IterRuns.{first_progress}
-use Rattle.queue_blocks.specs.Blocks.{items_of, left_in}
-use Rattle.queue_blocks.proofs.Blocks.{taken_here, none_here, none_left, next_shown, next_chained}
+use Rattle.raw_lists.specs.Blocks.{items_of, left_in}
+use Rattle.raw_lists.proofs.Blocks.{taken_here, none_here, none_left, next_shown, next_chained}
 use Rattle.block_queue.proofs.iter.IterIterator.next.Goals as goal
 
 pub returns-in-Some-clause-steps : goal.returns-in-Some-clause-steps

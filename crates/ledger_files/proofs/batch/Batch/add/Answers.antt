@@ -8,4 +8,4 @@ returns-clause-lines c =
     let octets = c.in_ok-extend_from_slice.ensures.items in
     let end : c.len.result ≡ length (c.args.self.now.octets.items ++ c.args.line.now) = omega (arith, ap length octets, c.extend_from_slice.new.self.ok.0, c.len.ensures) in
     let ends : c.push_reserved-2.new.self.items ≡ c.args.self.now.ends.items ++ length (c.args.self.now.octets.items ++ c.args.line.now) ∷ [] = cc in
-    λ lines h. holds_more old _ c.args.line.now lines h octets ends refl refl
+    λ lines h. holds_more old _ c.args.line.now lines h octets ends refl refl refl

@@ -3,4 +3,4 @@ use Rattle.ledger_files.proofs.Ends.{holds_same}
 use Rattle.ledger_files.proofs.batch.Batch.begin_line_again.Goals as goal
 
 pub returns-clause-lines : goal.returns-clause-lines
-returns-clause-lines c = λ lines h. holds_same c.args.self.now _ lines h refl refl refl refl
+returns-clause-lines c = λ lines h. holds_same c.args.self.now _ lines h refl refl refl refl refl

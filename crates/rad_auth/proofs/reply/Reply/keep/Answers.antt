@@ -11,7 +11,7 @@ invariant_of-result c =
     let second : c.len-sending_end.result ≡ c.len-response_end.result + length c.args.sending.now = omega (arith, c.in_ok-extend_from_slice.ensures.len, ap length c.octets.ensures.value) in
     let third : c.len-reply_end.result ≡ c.len-sending_end.result + length c.args.reply.now = omega (arith, c.in_ok-extend_from_slice-2.ensures.len, ap length c.octets-2.ensures.value) in
     let count : length c.octets-5.result.now ≡ length c.args.client.now = ap length c.octets-5.ensures.value in
-    IsParted-joined c.args.head c.from_vec.result response c.args.sending.now c.args.reply.now c.args.client.now c.args.home.now _ _ _ _ whole first second third count c.requires
+    IsParted-joined c.args.head c.from_vec.result response c.args.sending.now c.args.reply.now c.args.client.now c.args.home.now _ _ _ _ whole first second third count c.octets.ensures.packet c.requires
 
 pub overflow_cast-response_end : goal.overflow_cast-response_end
 overflow_cast-response_end c = omega (arith, c.requires.response_packet.most)

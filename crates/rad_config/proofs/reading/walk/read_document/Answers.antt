@@ -6,8 +6,8 @@ use Rattle.rad_config.proofs.Failing.{fails_is, fails_here, fails_later}
 use Rattle.rad_config.proofs.WellFormed.{read_well}
 use Rattle.rad_config.proofs.reading.walk.read_document.Goals as goal
 
-pub new-requires : goal.new-requires
-new-requires c = read_well (table_view c.args.doc.now) _ (record {
+pub invariant_of-config : goal.invariant_of-config
+invariant_of-config c = read_well (table_view c.args.doc.now) _ (record {
   default_home = option_map (λ s. s.now) c.in_ok-default_home.default_home;
   clients = c.in_ok-clients.ensures;
   homes = c.in_ok-homes.ensures;

@@ -2,15 +2,12 @@
 use mathlib.Core.Path.{refl}
 use mathlib.Core.List.{[], ◌∷◌, ◌++◌}
 use seplogic.Ra.Ura.{Ura}
-use mir.Syntax.{named}
+use mir.Syntax.{Args, Dict, Fn, a_type, dcons, dnil, named}
 use mir.Val.{Val, vptr, vstruct, vnil}
-use base.Logic.{SProp, ent, emp, via, fst∗}
-use prog.Memory.{Memory}
-use prog.Routine.{Routine}
-use prog.Wp.{Calls, Loops, WpFn, Tables}
+use mir.MapTy.{inst_fn}
+use base.Logic.{SProp, via, fst∗}
+use prog.Wp.{WpFn, Tables}
 use types.Logic.{Logic}
-use contract.Lifetimes.{Lfts, Shares}
-use contract.Monad.{Fun}
 use contract.Running.{tables, tables_of}
 use sound.WpLaws.{WpFn-mono}
 use types.Kit.{‵, raw, ◌$◌, ◌∵◌, !, qed, move, suffices, done}
@@ -18,14 +15,18 @@ use types.Run.{no_more, returns, enter}
 use types.Part.{agg}
 use types.ByLocal.{alloc_all, pass_all, free_all, look_at, sets}
 use denote.Exit.{yes}
-use denote.RattleType.{owns}
+use denote.RattleType.{RattleType, owns}
+use denote.Param.{param, bounded}
 use denote.Ref.{shr_vals, shr_Tells}
 use denote.Shadow.{pure_i}
 use denote.Signature.{plain, types_at}
-use denote.Triple.Entry.{on_entry, alive, Args}
+use denote.Triple.Entry.{alive}
+use denote.Triple.Clauses.{Ended}
 use denote.Triple.Spec.{triple_of}
 use denote.Triple.Table.{entered}
 use denote.Triple.Walked.{says, stay_none_ref, Stays, walk_of, ends_at, walked, Goes-none_ref, walk_Meets}
+use Rattle.rad_desk.specs.HandOver.{handed_at}
+use Rattle.rad_desk.specs.declared.wire.Wire.{Ghosts}
 use Rattle.rad_desk.specs.declared.ledger.Handed.{Handed}
 use Rattle.rad_desk.specs.contracts.ledger.Handed.with.Key.{name as key}
 use Rattle.rad_desk.specs.contracts.ledger.Handed.with as made
@@ -37,49 +38,48 @@ use Rattle.rad_desk.proofs.ledger.Handed.with.Code as code
 abbrev empty : Val
 empty = vstruct vnil
 
-abbrev stayed : Stays made.ended.signature.params made.ended.kept
-stayed = (
-  stay_none_ref (0 ∷ []) tt (plain (λ _. list.the_row)) yes,
-  (stay_none_ref (1 ∷ []) tt (plain (λ _. response.the_row)) yes, tt),
-)
+module _ (W : RattleType) (wire : Ghosts W.Denot) (dict : Dict) where
+  abbrev args : Args
+  args = bounded (a_type ∷ []) (W, tt) (dcons dict dnil)
 
-module _ {M : Type 1} {𝓤 : Ura M} (𝓛 : Logic 𝓤) (mem : Memory → SProp 𝓤) (run : Routine → Fun 𝓤) (C : Calls 𝓤 𝓛.H) (Λ : Loops 𝓤 𝓛.H) where
-  open 𝓛 use {H}
+  abbrev function : Fn
+  function = inst_fn args code.function
 
-  module _ (κs : Lfts 2) (qs : Shares 2) (a : Args made.signature κs) where
-    abbrev before : Val
-    before = vptr a.0.ref_ptr.0 a.0.ref_ptr.1
+  abbrev ended : Ended
+  ended = made.ended W wire dict
 
-    abbrev ends : Val
-    ends = vptr a.1.0.ref_ptr.0 a.1.0.ref_ptr.1
-
-    abbrev more : Handed
-    more = record { responses = a.0.now.responses ++ a.1.0.now ∷ [] }
-
-    abbrev bound : (walk_of 𝓛 made.ended stayed (made.clauses 𝓛 mem run)).Ghost
-    bound = ((κs, qs, tt, a, (before ∷ [], (ends ∷ [], tt))), tt)
-
-    walk : ent 𝓤 (on_entry 𝓛 made.signature κs qs a (before ∷ [], (ends ∷ [], tt)))
-        (WpFn 𝓤 H C Λ code.function (before ∷ ends ∷ []) ((walk_of 𝓛 made.ended stayed (made.clauses 𝓛 mem run)).post bound))
-    walk =
-        qed 𝓛 (raw (alive 𝓛 made.signature κs qs) ∷ ‵ (owns (types_at made.signature.params κs) a (before ∷ [], (ends ∷ [], tt))) ∷ []) ∵
-        enter ! C Λ code.function (before ∷ ends ∷ []) _ $
-        alloc_all ! (λ l. pass_all ! refl ((tt, tt), ((tt, tt), tt)) $
-        sets ! (agg ! (no_more !)) refl (tt, tt) $
-        returns ! (look_at ! 0 refl) $ free_all ! refl $
-        suffices ! _ (ends_at 𝓛 made.ended stayed (made.clauses 𝓛 mem run) bound empty more (tt, (tt, tt)) (tt, (tt, tt))) $
-        says ! refl $ pure_i ! (list.the_row.own_val more (empty ∷ [])) ((λ vss. (tt, tt)), tt) ((tt, (refl, tt)), tt) $
-        move ! (1 ∷ 2 ∷ 0 ∷ []) $ done !)
+  abbrev stayed : Stays ended.signature.params ended.kept
+  stayed = (
+    stay_none_ref (0 ∷ []) tt (plain (λ _. list.the_row)) yes,
+    (stay_none_ref (1 ∷ []) tt (plain (λ _. response.the_row)) yes, (stay_none_ref (2 ∷ []) tt (plain (λ _. param 0 W)) yes, tt)),
+  )
 
 pub with_spec : {M : Type 1} → stated.statement M
 unfolding tables_of
-with_spec 𝓤 𝓛 𝓜 𝓡 wired =
+with_spec 𝓤 𝓛 𝓜 𝓡 wired W laws wire dict met =
     let 𝓣 : Tables 𝓤 𝓛.H = tables_of 𝓤 𝓛.H 𝓜 (tables 𝓤 𝓛.H 𝓜 𝓡 𝓡.env) in
-    let held = made.clauses 𝓛 𝓜.mem 𝓡.returns in
-    let goes = WpFn 𝓤 𝓛.H 𝓣.C 𝓣.Λ code.function in
-    entered 𝓤 𝓛.H (triple_of 𝓛 made.signature (made.spec 𝓛 𝓜.mem 𝓡.returns)) 𝓣.C 𝓣.Λ key code.function (code.unfolded 𝓤 𝓛.H 𝓜 𝓡 wired)
-    (walk_Meets 𝓛 made.ended stayed (Goes-none_ref 𝓛 2 (0 ∷ []) tt (plain (λ _. list.the_row)) yes, (Goes-none_ref 𝓛 2 (1 ∷ []) tt (plain (λ _. response.the_row)) yes, tt))
-    held goes (WpFn-mono 𝓤 𝓛.H 𝓛.laws 𝓣 code.function)
-    (walked 𝓛 made.ended stayed held goes (λ κs. (shr_vals, (shr_vals, tt)))
-    (λ κs. (shr_Tells (named 0) κs.0 list.the_row, (shr_Tells (named 1) κs.1.0 response.the_row, tt)))
-    (λ κs qs bounds a g are. via 𝓤 _ (fst∗ 𝓤 _ (emp 𝓤)) (walk 𝓛 𝓜.mem 𝓡.returns 𝓣.C 𝓣.Λ κs qs a))))
+    let held = made.clauses W wire dict 𝓛 𝓜.mem 𝓡.returns in
+    let fn = function W wire dict in
+    let en = ended W wire dict in
+    let stay = stayed W wire dict in
+    let goes = WpFn 𝓤 𝓛.H 𝓣.C 𝓣.Λ fn in
+    entered 𝓤 𝓛.H (triple_of 𝓛 (made.signature W) (made.spec W wire dict 𝓛 𝓜.mem 𝓡.returns)) 𝓣.C 𝓣.Λ (key (args W wire dict)) fn (code.unfolded 𝓤 𝓛.H 𝓜 𝓡 wired (W, tt) dict)
+    (walk_Meets 𝓛 en stay (Goes-none_ref 𝓛 4 (0 ∷ []) tt (plain (λ _. list.the_row)) yes, (Goes-none_ref 𝓛 4 (1 ∷ []) tt (plain (λ _. response.the_row)) yes, (Goes-none_ref 𝓛 4 (2 ∷ []) tt (plain (λ _. param 0 W)) yes, tt)))
+    held goes (WpFn-mono 𝓤 𝓛.H 𝓛.laws 𝓣 fn)
+    (walked 𝓛 en stay held goes (λ κs. (shr_vals, (shr_vals, (shr_vals, tt))))
+    (λ κs. (shr_Tells (named 0) κs.0 list.the_row, (shr_Tells (named 1) κs.1.0 response.the_row, (shr_Tells (named 2) κs.1.1.0 (param 0 W), tt))))
+    (λ κs qs bounds a g are.
+    let before : Val = vptr a.0.ref_ptr.0 a.0.ref_ptr.1 in
+    let ends : Val = vptr a.1.0.ref_ptr.0 a.1.0.ref_ptr.1 in
+    let over : Val = vptr a.1.1.0.ref_ptr.0 a.1.1.0.ref_ptr.1 in
+    let more : Handed = record { responses = a.0.now.responses ++ handed_at (wire.log a.1.1.0.now) a.1.0.now ∷ [] } in
+    let bound : (walk_of 𝓛 en stay held).Ghost = ((κs, qs, bounds, a, (before ∷ [], (ends ∷ [], (over ∷ [], tt)))), g) in
+    via 𝓤 _ (fst∗ 𝓤 _ ((held κs a).requires g))
+    (qed 𝓛 (raw (alive 𝓛 (made.signature W) κs qs) ∷ ‵ (owns (types_at (made.signature W).params κs) a (before ∷ [], (ends ∷ [], (over ∷ [], tt)))) ∷ []) ∵
+    enter ! 𝓣.C 𝓣.Λ fn (before ∷ ends ∷ over ∷ []) _ $
+    alloc_all ! (λ l. pass_all ! refl ((tt, tt), ((tt, tt), ((tt, tt), tt))) $
+    sets ! (agg ! (no_more !)) refl (tt, tt) $
+    returns ! (look_at ! 0 refl) $ free_all ! refl $
+    suffices ! _ (ends_at 𝓛 en stay held bound empty more (tt, (tt, (tt, tt))) (tt, (tt, (tt, tt)))) $
+    says ! refl $ pure_i ! (list.the_row.own_val more (empty ∷ [])) ((λ vss. (tt, tt)), tt) ((tt, (refl, tt)), tt) $
+    move ! (1 ∷ 2 ∷ 0 ∷ []) $ done !)))))

@@ -1,5 +1,0 @@
-use Rattle.queue_blocks.proofs.Ends.{after_taken}
-use Rattle.queue_blocks.proofs.block_iter.BlockIter.after_first.Goals as goal
-
-pub returns : goal.returns
-returns g c = after_taken c.args.self c.next.new.self c.next.result c.next.ensures

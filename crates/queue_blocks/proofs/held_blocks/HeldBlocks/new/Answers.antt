@@ -1,5 +1,0 @@
-use Rattle.queue_blocks.proofs.Ends.{held_new}
-use Rattle.queue_blocks.proofs.held_blocks.HeldBlocks.new.Goals as goal
-
-pub invariant_of-result : goal.invariant_of-result
-invariant_of-result g c = held_new c.one.result c.cleared-first.result.block c.one.ensures c.cleared-first.ensures

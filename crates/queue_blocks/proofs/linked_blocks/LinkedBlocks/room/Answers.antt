@@ -1,6 +1,0 @@
-use Rattle.std.proofs.Common.{◌∙◌}
-use Rattle.queue_blocks.proofs.Ends.{ends_room}
-use Rattle.queue_blocks.proofs.linked_blocks.LinkedBlocks.room.Goals as goal
-
-pub returns : goal.returns
-returns g c = c.room.ensures.room ∙ ends_room c.args.self.now c.last.result.now c.last.ensures

@@ -1,8 +1,0 @@
-use Rattle.std.proofs.Common.{ap, ◌∙◌}
-use Rattle.queue_blocks.proofs.row.Row.as_slice.Goals as goal
-
-pub values-requires : goal.values-requires
-values-requires g c = c.self.invariant.run
-
-pub returns : goal.returns
-returns g c = c.values.ensures ∙ ap (λ q. q.items) c.self.view_is

@@ -1,6 +1,0 @@
-use Rattle.std.proofs.Common.{arith}
-use Rattle.queue_blocks.proofs.Places.{no_items}
-use Rattle.queue_blocks.proofs.row.Row.drop.Goals as goal
-
-pub free-requires : goal.free-requires
-free-requires g c = no_items c.loop.self.items (omega (arith, c.loop.invariant))

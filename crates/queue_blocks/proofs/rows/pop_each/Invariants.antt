@@ -1,5 +1,0 @@
-use Rattle.std.proofs.Common.{◌≡◌, drop}
-use Rattle.queue_blocks.proofs.rows.pop_each.Given as goal
-
-abbrev pub invariant-loop : goal.invariant-loop
-invariant-loop g l = l.row.items ≡ drop l.counter l.fn.row.items

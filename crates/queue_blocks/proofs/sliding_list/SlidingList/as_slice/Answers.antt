@@ -1,5 +1,0 @@
-use Rattle.std.proofs.Common.{ap, ◌∙◌}
-use Rattle.queue_blocks.proofs.sliding_list.SlidingList.as_slice.Goals as goal
-
-pub returns : goal.returns
-returns g c = c.slice_of.ensures ∙ ap (λ q. q.items) c.self.view_is

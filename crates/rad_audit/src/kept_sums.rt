@@ -1,0 +1,117 @@
+//! Sums of chains that somebody kept, and whether the lines have them.
+
+ghost use Rattle.std.specs.Prelude.{◌≡◌};
+
+use crate::runs::Run;
+use std::alloc::{AllocError, Global};
+
+/// A sum that somebody kept.
+#[derive(Clone, Copy)]
+pub struct KeptSum<'a> {
+    /// The word that names it.
+    pub word: &'a str,
+    /// The name of its run.
+    pub run: u64,
+    /// The number of the file of the run before, between or behind whose lines it stands.
+    pub file: u64,
+    pub sum: [u8; 32],
+    /// Whether it was found there.
+    pub is_found: bool,
+}
+
+impl<'a> KeptSum<'a> {
+    ghost use Rattle.std.specs.Prelude.{◌≡◌};
+    ghost use Rattle.rad_audit.specs.Kept.{seen as the_seen};
+
+    /// Returns the sum that a word `RUN:FILE:SUM` names, if it is such a word.
+    pub fn read(word: &'a str) -> Option<KeptSum<'a>> {
+        let (run, rest) = word.split_once(':')?;
+        let (file, digits) = rest.split_once(':')?;
+        let mut name = [0; 8];
+        let mut sum = [0; 32];
+        hex::decode_to_slice(run, &mut name).ok()?;
+        hex::decode_to_slice(digits, &mut sum).ok()?;
+        Some(KeptSum {
+            word,
+            run: u64::from_be_bytes(name),
+            file: file.parse::<u64>().ok()?,
+            sum,
+            is_found: false,
+        })
+    }
+
+    /// Returns the same, once this run has this sum in this file.
+    fn seen(self, run: u64, file: u64, sum: [u8; 32]) -> KeptSum<'a>
+        ensures { result ≡ the_seen run file sum self.entry }
+    {
+        let is_found = self.is_found || (self.run == run && self.file == file && self.sum == sum);
+        let kept = self.sum;
+        KeptSum {
+            word: self.word,
+            run: self.run,
+            file: self.file,
+            sum: kept,
+            is_found,
+        }
+    }
+}
+
+/// Sums that somebody kept.
+#[derive(Drop)]
+pub struct KeptSums<'a> {
+    sums: Vec<KeptSum<'a>>,
+}
+
+impl<'a> KeptSums<'a> {
+    ghost use Rattle.std.specs.Prelude.{◌≡◌, [], ◌∷◌, ◌++◌, OnOk, map};
+    ghost use Rattle.rad_audit.specs.Kept.{seen as the_seen};
+
+    /// Returns no sums.
+    pub fn new(alloc: Global) -> KeptSums<'a>
+        ensures { result.sums.items ≡ [] }
+    {
+        KeptSums {
+            sums: Vec::new(alloc),
+        }
+    }
+
+    /// Adds a sum.
+    ///
+    /// # Errors
+    ///
+    /// `AllocError` if memory is refused.
+    pub fn add(&mut self, sum: KeptSum<'a>) -> Result<(), AllocError>
+        ensures { OnOk result (self.new.sums.items ≡ self.old.sums.items ++ sum.entry ∷ []) }
+    {
+        match self.sums.push(sum) {
+            Ok(()) => Ok(()),
+            Err(_) => Err(AllocError),
+        }
+    }
+
+    /// Returns the sums.
+    pub fn as_slice(&self) -> &[KeptSum<'a>]
+        ensures { result.now ≡ self.now.sums.items }
+    {
+        self.sums.as_slice()
+    }
+
+    /// Takes the sum that the chain of a run has now, if it has a chain.
+    pub fn see_run(&mut self, run: &Run) {
+        if self.sums.is_empty() {
+            return;
+        }
+        if let Some(sum) = run.chain.sum() {
+            self.see(run.run, run.chain.file(), sum);
+        }
+    }
+
+    /// Takes a sum that a run has in this file.
+    pub fn see(&mut self, run: u64, file: u64, sum: [u8; 32])
+        ensures { self.new.sums.items ≡ map (the_seen run file sum) self.old.sums.items }
+    {
+        for kept in self.sums.iter_mut() {
+            *kept = kept.seen(run, file, sum);
+        }
+    }
+}

@@ -1,0 +1,349 @@
+"""Ledgers with sums that Python makes, and what somebody may make of them, with what the auditor has to print of each and its status."""
+import hashlib
+
+from tests.lib import audit_model
+from tests.lib.ledger.cases import (HOME, NAME, REASONS, backward, changed, config, counted, fates, lines_of, one, runs, signed_response,
+                                    told, two)
+from tests.lib.ledger.left_cases import LEFT_REASONS, accounts
+from tests.lib.ledgers import Lane, Run, chained, digest, hidden, sum_of, text
+
+
+def sealed(files):
+    """The files with the right sum in each line that begins a file or ends a run."""
+    sums, made = {}, {}
+    for name, content in files.items():
+        *lines, last = content.split("\n")
+        made[name] = "".join(f"{seal(line, sums)}\n" for line in lines) + last
+    return made
+
+
+def seal(line, sums):
+    """A line with its sum, where it has one. `sums` has the sum of each run, which goes on."""
+    try:
+        found = audit_model.read_line(line.encode("utf-8", "surrogateescape"))
+    except audit_model.NoLine:
+        return line
+    run = found["run"].lower()
+    if found["type"] == "begin":
+        sums.setdefault(run, bytes(32))
+    if run not in sums:
+        return line
+    if found["type"] in ("begin", "end"):
+        line = text([{**found, "sum": sums[run].hex()}])[:-1]
+    sums[run] = sum_of([{"type": "hidden", "sum": digest(line).hex()}], sums[run])
+    return line
+
+
+def wrong(place):
+    return f"{place}: WrongSum"
+
+
+def with_wrong(number, printed):
+    """What is printed, with the wrong sum of the line of this number."""
+    at = sum(line.startswith("ledger:") and int(line.split(":")[1]) < number for line in printed)
+    return [*printed[:at], wrong(f"ledger:{number}"), *printed[at:]]
+
+
+def kept(run, file, its):
+    """The word of a sum that somebody kept."""
+    return f"{run:016x}:{file}:{its.hex()}"
+
+
+def of_run(name, lines):
+    """The same of another run."""
+    return [line.replace(f"{NAME:016x}", f"{name:016x}") for line in lines]
+
+
+def without(lines, place, **end):
+    """The lines without the entry at this place, the later ones renumbered, and other counts in the end line."""
+    return told([*lines[:place], *(changed(line, serial=line["serial"] - 1) for line in lines[place + 1 : -1]), lines[-1]], **end)
+
+
+def tampers():
+    """What somebody makes of a whole run of two lanes with an editor and without a secret: the run and the lines then, what is printed of them
+    where all sums are written anew, the status then, and the configuration, if it is another one."""
+    run = one()
+    lines, whole = chained([*lines_of(run, 5, False), run.end_of_all()]), [counted(0, "h1", 0, 5, "whole"), fates(5, 5, 0)]
+    gap = f"ledger:8: run {NAME:016x} lane 0 h1 gap 5 to 5"
+    yield "an-entry-taken-out", lines, without(lines, 2, entries=4), [counted(0, "h1", 0, 4, "unaccounted"), fates(5, 4, 0)], 3
+    yield "an-entry-taken-out-and-not-accepted", lines, without(lines, 2, entries=4, accepted=4), [counted(0, "h1", 0, 4, "unaccounted"), fates(4, 4, 0)], 3
+    yield "the-last-entry-taken-out-and-not-accepted", lines, without(lines, 5, entries=4, accepted=4), [counted(0, "h1", 0, 4, "whole"), fates(4, 4, 0)], 0
+    yield "the-tail-cut", lines, told([*lines[:4], lines[6]], entries=3, accepted=3), [counted(0, "h1", 0, 3, "whole"), fates(3, 3, 0)], 0
+    yield "an-entry-doubled", lines, [*lines[:6], changed(lines[2], serial=5), told(lines, entries=6)[-1]], [
+        "ledger:7: RecordTwice", gap, counted(0, "h1", 0, 5, "gap 5 to 5"), fates(5, 5, 0)], 5
+    swapped = [*lines[:2], changed(lines[3], serial=1), changed(lines[2], serial=2), *lines[4:]]
+    yield "neighbours-swapped", lines, swapped, [*whole, backward(0, "h1", 1)], 0
+    yield "neighbours-swapped-with-their-times", lines, [
+        *lines[:2], changed(swapped[2], time=lines[2]["time"]), changed(swapped[3], time=lines[3]["time"]), *lines[4:]], whole, 0
+    raised = [changed(lines[0], lanes=[{"lane": 0, "home": "h1", "serial": 2}]), *lines[3:]]
+    yield "begin's-serial-raised", lines, raised, [counted(0, "h1", 2, 3, "part"), fates(5, 3, 0)], 7
+    yield "begin-of-a-later-file", lines, [changed(lines[0], file=1), *lines[1:]], [counted(0, "h1", 0, 5, "part"), fates(5, 5, 0)], 7
+    yield "another-version", lines, [changed(lines[0], version="9"), *lines[1:]], whole, 0
+    yield "a-begin-of-another-time", lines, [changed(lines[0], time="2026-01-30T00:00:00.000Z"), *lines[1:]], whole, 0
+    for key, value in {"port": 1, "time": "2026-01-31T00:00:00.751Z"}.items():
+        yield f"another-{key}", lines, [*lines[:2], changed(lines[2], **{key: value}), *lines[3:]], whole, 0
+    far = [*lines[:5], changed(lines[5], time="2026-12-31T00:00:00.000Z"), *lines[6:]]
+    yield "a-time-far-ahead", lines, far, whole, 0
+    another = config() + '[[client]]\naddress = "192.0.2.11"\nsecret = "nas-secret"\n'
+    client = [*lines[:2], changed(lines[2], client="192.0.2.11"), *lines[3:]]
+    yield "a-client-of-the-same-secret", lines, client, whole, 0, another
+    unjudged = [counted(0, "h1", 0, 5, "part", 1), fates(5, 5, 0)]
+    yield "a-client-that-is-not-there", lines, client, unjudged, 7
+    forged = changed(signed_response(client[2], b"\x19\x05abc", identifier=77, secret=b"of anybody"), identifier=77, authenticator="ab" * 16)
+    yield "a-client-that-is-not-there-with-a-forged-response", lines, [*lines[:2], forged, *lines[3:]], unjudged, 7
+
+    run = two()
+    both = chained([run.begin(), run.entry(0), run.entry(1), run.entry(0), run.end_of_all()])
+    first, second = both[0]["lanes"]
+    struck = [changed(both[0], lanes=[first]), both[1], both[3], changed(both[4], lanes=both[4]["lanes"][:1])]
+    yield "a-lane-struck-out", both, struck, [counted(0, "h1", 0, 2, "whole"), fates(2, 2, 0)], 0
+    emptied = [*both[:2], both[3], changed(both[4], lanes=[both[4]["lanes"][0], {"lane": 1, "entries": 0, "accepted": 0, "left": 0}])]
+    yield "a-lane-emptied", both, emptied, [counted(0, "h1", 0, 2, "whole"), fates(2, 2, 0), counted(1, "h2", 0, 0, "whole"), fates(0, 0, 0, 1, "h2")], 0
+
+    run = Run(NAME, [Lane(0, "h1", HOME), Lane(1, "h2", HOME)])
+    both = chained([run.begin(), run.entry(0), run.entry(1), run.entry(0), run.end_of_all()])
+    other = {"h1": "h2", "h2": "h1"}
+    exchanged = [changed(line, home=other[line["home"]]) if "home" in line else line for line in both]
+    exchanged[0] = changed(both[0], lanes=[{**lane, "home": other[lane["home"]]} for lane in both[0]["lanes"]])
+    its = [counted(0, "h2", 0, 2, "whole"), fates(2, 2, 0, 0, "h2"), counted(1, "h1", 0, 1, "whole"), fates(1, 1, 0, 1, "h1")]
+    yield "home-servers'-names-swapped-under-one-secret", both, exchanged, its, 0, config((("h1", HOME), ("h2", HOME)))
+
+    run = one()
+    mine = [*lines_of(run, 2, False), *(run.left() for _ in range(2)), run.end_of_all()]
+    lines = chained(mine)
+    yield "a-left-line-taken-out", lines, [*lines[:3], *lines[4:]], [counted(0, "h1", 0, 2, "unaccounted"), fates(4, 2, 1)], 3
+    yield "a-state-edited", lines, [*lines[:3], changed(lines[3], state="untaken"), *lines[4:]], [counted(0, "h1", 0, 2, "whole"), fates(4, 2, 2)], 0
+
+
+def tampered():
+    """Each of these with the sums as they were, which the last one contradicts; with all sums written anew, of which the pages say that it
+    is not found; and this beside the last sum, which somebody kept."""
+    for name, before, lines, printed, status, *rest in tampers():
+        last = len(lines)
+        yield f"{name}, beside its sums", {"ledger": text(lines)}, with_wrong(last, printed), 5, *rest
+        anew = {"ledger": text(chained([{key: value for key, value in line.items() if key != "sum"} for line in lines]))}
+        yield f"{name}, all sums anew", anew, printed, status, *rest
+        bare = {"ledger": text({key: value for key, value in line.items() if key != "sum"} for line in lines)}
+        yield f"{name}, without sums", bare, [line.replace(" whole", " part") for line in printed], status or 7, *rest
+        word = kept(NAME, 0, sum_of(before))
+        yield f"{name}, all sums anew, and one kept", anew, [*printed, wrong(word)], 5, rest[0] if rest else config(), ["--sum", word]
+
+
+def between_runs():
+    """What somebody makes of two whole runs, as above."""
+    lines, others = with_sums(), with_sums(NAME + 1)
+    whole = [counted(0, "h1", 0, 3, "whole"), fates(3, 3, 0)]
+    both, name, its = [*whole, *of_run(NAME + 1, whole)], lines[0]["run"], others[0]["run"]
+    mixed = [*lines[:2], changed(others[2], run=name, time="2026-01-31T00:00:00.751Z"), *lines[3:],
+             *others[:2], changed(lines[2], run=its), *others[3:]]
+    yield "entries-exchanged-between-runs", {"ledger": text(mixed)}, [wrong("ledger:5"), *both], 5
+    yield "entries-exchanged-between-runs, all sums anew", sealed({"ledger": text(mixed)}), both, 0
+    moved = [*lines[:4], changed(others[2], run=name, serial=3), told(lines, entries=4)[-1]]
+    its_gap = f"ledger:6: run {name} lane 0 h1 gap 3 to 3"
+    yield "an-entry-moved-to-another-run", sealed({"ledger": text(moved)}), [
+        "ledger:5: RecordTwice", its_gap, counted(0, "h1", 0, 3, "gap 3 to 3"), fates(3, 3, 0)], 5
+    renamed = [changed(line, run=its) for line in lines]
+    yield "a-run-under-another-name", {"ledger": text(renamed)}, [wrong("ledger:5"), *of_run(NAME + 1, whole)], 5
+    yield "a-run-under-another-name, all sums anew", sealed({"ledger": text(renamed)}), of_run(NAME + 1, whole), 0
+    forged = [changed(line, home="h9") if "home" in line else line for line in lines]
+    forged[0] = changed(lines[0], lanes=[{**lines[0]["lanes"][0], "home": "h9"}])
+    forged[1:4] = [changed(line, reply=line["sent"], response=line["sent"]) for line in forged[1:4]]
+    yield "a-ledger-of-an-unknown-home-server", sealed({"ledger": text(forged)}), [counted(0, "h9", 0, 3, "part", 3), fates(3, 3, 0, 0, "h9")], 7
+
+
+def named(lines, its, **keys):
+    """What names the file of these lines, and what keys have in its place."""
+    octets = text(its).encode()
+    name = f"2026-01-31-{its[0]['run']}-{its[0]['file']:06}.jsonl"
+    before = {"name": name, "octets": len(octets), "sha256": hashlib.sha256(octets).hexdigest(), **keys}
+    return chained([changed(line, sum=None, **({"before": before} if line["type"] == "begin" and line["file"] == 0 else {})) for line in lines])
+
+
+def runs_before():
+    """Runs of which one names the last file of the one before."""
+    lines, others = with_sums(), with_sums(NAME + 1)
+    whole = [counted(0, "h1", 0, 3, "whole"), fates(3, 3, 0)]
+    later, its = named(others, lines), of_run(NAME + 1, whole)
+    name = f"2026-01-31-{NAME:016x}-000000.jsonl"
+    missing = f"run {NAME + 1:016x} before {name} missing"
+    both = {"a": text(lines), "b": text(later)}
+    every = config(), ["--all"]
+    yield "a-run-that-the-next-one-names", both, [*whole, *its], 0
+    yield "a-run-that-the-next-one-names, all asked for", both, [*whole, *its], 0, *every
+    yield "a-run-behind-the-one-that-names-it", {"b": text(later), "a": text(lines)}, [*its, *whole], 0, *every
+    yield "a-whole-run-left-out", {"b": text(later)}, [*its, missing], 0
+    yield "a-whole-run-left-out, all asked for", {"b": text(later)}, [*its, missing], 10, *every
+    yield "a-whole-run-left-out, and a line", {"b": text([*later[:2], *later[3:]])}, [
+        f"b:3: run {NAME + 1:016x} lane 0 h1 gap 1 to 1", wrong("b:4"), counted(0, "h1", 0, 2, "gap 1 to 1", run=NAME + 1),
+        *of_run(NAME + 1, [fates(3, 2, 0)]), missing], 5, *every
+    yield "a-whole-run-left-out-before-one-that-is-open", {"b": text(later[:-1])}, [counted(0, "h1", 0, 3, "open", run=NAME + 1), missing], 10, *every
+    yield "the-first-run-of-all", {"a": text(lines)}, whole, 0, *every
+    yield "a-run-whose-last-file-is-another-one", {"a": text([*lines[:-1]]), "b": text(later)}, [
+        counted(0, "h1", 0, 3, "open"), *its, missing], 10, *every
+    edited = {"a": text(chained([*lines[:2], changed(lines[2], port=lines[2]["port"] + 1), *lines[3:]])), "b": text(later)}
+    yield "a-run-before-written-anew-in-as-many-octets", edited, [*whole, *its], 0
+    yield "a-run-before-written-anew-in-as-many-octets, all asked for", edited, [*whole, *its, missing], 10, *every
+    longer = {"a": text(chained([*lines[:2], changed(lines[2], port=1), *lines[3:]])), "b": text(later)}
+    yield "a-run-before-written-anew", longer, [*whole, *its, missing], 0
+    yield "a-run-before-with-a-line-more", {"a": text(lines) + text(lines[-1:]), "b": text(later)}, [wrong("a:6"), *whole, *its, missing], 5, *every
+    for form, odd in {"of-no-ledger": "notes.jsonl", "without-a-number": f"{NAME:016x}.jsonl", "of-another-number": f"{NAME:016x}-000001.jsonl",
+                      "of-a-shorter-run": f"{NAME:016x}"[1:] + "-000000.jsonl", "with-more-behind": f"{name}.gz", "of-a-run-that-is-not-there": f"{NAME - 1:016x}-000000.jsonl",
+                      "of-controls": f"a\n{name}\n"}.items():
+        yield f"a-name-{form}-before", {"a": text(lines), "b": text(named(others, lines, name=odd))}, [
+            *whole, *its, missing.replace(name, odd.replace("\n", "%0a"))], 10, *every
+    for form, odd in {"without-a-date": f"{NAME:016x}-000000.jsonl", "of-seven-digits": f"{NAME:016x}-0000000.jsonl", "behind-controls": f"a\n-{name}",
+                      "behind-digits": f"a{NAME:016x}-000000.jsonl", "of-a-sign": f"{NAME:016x}-+0.jsonl"}.items():
+        yield f"a-name-{form}-before", {"a": text(lines), "b": text(named(others, lines, name=odd))}, [*whole, *its], 0, *every
+    a, b, c = in_files(2, 1, 2)
+    whole = [counted(0, "h1", 0, 5, "whole"), fates(5, 5, 0)]
+    for file, last in {"a": a, "b": b, "c": c}.items():
+        files = {"a": text(a), "b": text(b), "c": text(c), "d": text(named(others, last))}
+        lacks = [] if last is c else [missing.replace("-000000", f"-{last[0]['file']:06}")]
+        yield f"a-run-of-three-files-of-which-{file}-is-named", files, [*whole, *its, *lacks], 10 if lacks else 0, *every
+    third = named(with_sums(NAME + 2), later)
+    files = {"a": text(lines), "c": text(third)}
+    yield "the-middle-run-left-out", files, [
+        *[counted(0, "h1", 0, 3, "whole"), fates(3, 3, 0)], *of_run(NAME + 2, [counted(0, "h1", 0, 3, "whole"), fates(3, 3, 0)]),
+        f"run {NAME + 2:016x} before {name.replace(f'{NAME:016x}', f'{NAME + 1:016x}')} missing"], 10, *every
+
+
+def with_sums(name=NAME):
+    """The lines of a run of three entries, with its sums."""
+    run = Run(name, [Lane(0, "h1", HOME)])
+    return chained([*lines_of(run, 3, False), run.end_of_all()])
+
+
+def in_files(*counts):
+    """The files of a run with so many entries in each, with its sums."""
+    run, lines, files = one(), [], []
+    for count in counts:
+        lines.append([run.begin(), *(run.entry() for _ in range(count))])
+    lines[-1].append(run.end_of_all())
+    all_lines = chained([line for file in lines for line in file])
+    for file in lines:
+        files.append(all_lines[: len(file)])
+        del all_lines[: len(file)]
+    return files
+
+
+def without_sums():
+    """Runs without sums, which are a part at most."""
+    lines, part = lines_of(one(), 3), [counted(0, "h1", 0, 3, "part")]
+    files = {"ledger": text(lines)}
+    yield "without-sums", files, part, 7
+    yield "without-sums, as asked", files, part, 0, config(), ["--partial"]
+    yield "without-sums, and another word", files, part, 7, config(), ["--from"]
+    yield "without-sums-and-open", {"ledger": text(lines[:-1])}, [counted(0, "h1", 0, 3, "open")], 7
+    yield "without-sums-and-open, as asked", {"ledger": text(lines[:-1])}, [counted(0, "h1", 0, 3, "open")], 6, config(), ["--partial"]
+    gap = [f"ledger:3: run {NAME:016x} lane 0 h1 gap 1 to 1", counted(0, "h1", 0, 2, "gap 1 to 1")]
+    yield "without-sums-and-not-all", {"ledger": text([*lines[:2], *lines[3:]])}, gap, 3
+    run = one()
+    yield "without-sums-and-unaccounted", {"ledger": text(told([*lines_of(run, 2, False), run.end_of_all()], accepted=3))}, [
+        counted(0, "h1", 0, 2, "unaccounted"), fates(3, 2, 0)], 3
+    yield "a-run-with-sums-and-one-without", {"a": text(with_sums()), "b": text(lines_of(Run(NAME + 1, [Lane(0, "h1", HOME)]), 1))}, [
+        counted(0, "h1", 0, 3, "whole"), fates(3, 3, 0), counted(0, "h1", 0, 1, "part", run=NAME + 1)], 7
+
+
+def chains():
+    """Runs with sums, as above; behind these the words that name sums that somebody kept."""
+    lines, whole = with_sums(), [counted(0, "h1", 0, 3, "whole"), fates(3, 3, 0)]
+    changed_at = lambda at, **keys: {"ledger": text([*lines[:at], changed(lines[at], **keys), *lines[at + 1 :]])}
+    yield "sums", {"ledger": text(lines)}, whole, 0
+    yield "sums-in-capitals", {"ledger": text(chained([changed(line, run=line["run"].upper()) for line in lines]))}, whole, 0
+    yield "a-begin-of-another-sum", {"ledger": text(chained(lines, bytes(31) + b"\1"))}, [wrong("ledger:1"), *whole], 5
+    yield "a-begin-of-another-sum-alone", changed_at(0, sum="1" * 64), [wrong("ledger:1"), wrong("ledger:5"), *whole], 5
+    yield "a-begin-without-its-sum", changed_at(0, sum=None), [whole[0].replace("whole", "part"), whole[1]], 7
+    yield "an-end-of-another-sum", changed_at(4, sum="1" * 64), [wrong("ledger:5"), *whole], 5
+    yield "an-end-without-its-sum", changed_at(4, sum=None), [wrong("ledger:5"), *whole], 5
+    for name, value in {"a-short-sum": "1" * 62, "a-sum-that-is-no-digits": "g" * 64, "a-sum-that-is-a-number": 1}.items():
+        yield name, changed_at(4, sum=value), ["ledger:5: NotEntry", counted(0, "h1", 0, 3, "open")], 5
+
+    gap = f"ledger:4: run {NAME:016x} lane 0 h1 gap 1 to 1"
+    left_out = [gap, counted(0, "h1", 0, 2, "gap 1 to 1"), fates(3, 2, 0), f"run {NAME:016x} hidden 1"]
+    hides = lambda line: {"ledger": text([*lines[:2], line, *lines[3:]])}
+    yield "a-line-left-out", hides(hidden(lines[2])), left_out, 3
+    yield "a-line-left-out-in-capitals", hides({"sum": hidden(lines[2])["sum"].upper(), "type": "hidden"}), left_out, 3
+    yield "another-line-left-out", hides(hidden(lines[1])), [gap, wrong("ledger:5"), *left_out[1:]], 5
+    yield "a-line-taken-out", {"ledger": text([*lines[:2], *lines[3:]])}, [
+        gap.replace(":4:", ":3:"), wrong("ledger:4"), *left_out[1:3]], 5
+    yield "a-line-left-out-of-no-run", {"ledger": text([hidden(lines[2]), *lines])}, ["ledger:1: UnknownLane", *whole], 5
+    for name, line in {"of-a-run": {**hidden(lines[2]), "run": lines[2]["run"]}, "without-a-sum": {"type": "hidden"},
+                       "of-a-short-sum": {"type": "hidden", "sum": "1" * 62}}.items():
+        yield f"a-line-left-out-{name}", hides(line), ["ledger:3: NotEntry", gap, wrong("ledger:5"), *left_out[1:3]], 5
+    run = two()
+    its = chained([run.begin(), *(run.entry(place) for place in (0, 1, 0, 1, 1)), run.end()])
+    handed = [hidden(line) if line.get("home") == "h2" else line for line in its]
+    yield "the-lines-of-a-home-server-left-out", {"ledger": text(handed)}, [
+        f"ledger:7: run {NAME:016x} lane 1 h2 gap 0 to 2", counted(0, "h1", 0, 2, "whole"), counted(1, "h2", 0, 0, "gap 0 to 2"),
+        f"run {NAME:016x} hidden 3"], 3
+    yield "all-left-out", {"ledger": text([lines[0], *map(hidden, lines[1:])])}, [counted(0, "h1", 0, 0, "open"), f"run {NAME:016x} hidden 4"], 7
+    more = {"ledger": text(chained([*lines[:2], hidden(lines[2]), *lines[2:]]))}
+    yield "a-line-more-that-is-left-out", more, [*whole, f"run {NAME:016x} hidden 1"], 7
+    yield "a-line-more-that-is-left-out, as asked", more, [*whole, f"run {NAME:016x} hidden 1"], 0, ["--partial"]
+    yield "a-line-more-that-is-left-out, and another word", more, [*whole, f"run {NAME:016x} hidden 1"], 7, ["--from"]
+
+    a, b, c = in_files(2, 1, 2)
+    whole = [counted(0, "h1", 0, 5, "whole"), fates(5, 5, 0)]
+    yield "three-files", {"a": text(a), "b": text(b), "c": text(c)}, whole, 0
+    yield "three-files-in-one", {"ledger": text([*a, *b, *c])}, whole, 0
+    yield "a-line-of-the-first-file-edited", {"a": text([a[0], changed(a[1], port=7), a[2]]), "b": text(b), "c": text(c)}, [wrong("b:1"), *whole], 5
+    part = [counted(0, "h1", 0, 5, "part"), fates(5, 5, 0)]
+    yield "the-second-file-without-sums", {"a": text(a), "b": text([changed(b[0], sum=None), b[1]]), "c": text(c)}, [wrong("b:1"), *part], 5
+    bare = [changed(line, sum=None) for line in (a[0], b[0], c[0], c[3])]
+    yield "no-sums-in-any-file", {"a": text([bare[0], *a[1:]]), "b": text([bare[1], *b[1:]]), "c": text([bare[2], *c[1:3], bare[3]])}, part, 7
+    yield "sums-from-the-second-file-on", {"a": text([bare[0], *a[1:]]), "b": text(b), "c": text(c)}, part, 7
+    missing = [f"c:1: run {NAME:016x} files 1 to 1 missing", f"c:2: run {NAME:016x} lane 0 h1 gap 2 to 2"]
+    yield "a-file-missing", {"a": text(a), "c": text(c)}, [*missing, counted(0, "h1", 0, 4, "gap 2 to 2"), fates(5, 4, 0)], 8
+    later = [counted(0, "h1", 2, 3, "part"), fates(5, 3, 0)]
+    yield "from-the-second-file-on", {"b": text(b), "c": text(c)}, later, 7
+    yield "from-the-second-file-on, as asked", {"b": text(b), "c": text(c)}, later, 0, ["--from"]
+    late = {"a": text(a), "c": text([changed(c[0], file=9, sum=c[0]["sum"]), *c[1:]])}
+    yield "files-missing-and-a-line-edited", late, [
+        f"c:1: run {NAME:016x} files 1 to 8 missing", missing[1], wrong("c:4"), counted(0, "h1", 0, 4, "gap 2 to 2"), fates(5, 4, 0)], 5
+    skipped = {"a": text(a), "b": text([changed(b[0], file=0, sum="1" * 64), *b[1:]]), "c": text([changed(c[0], file=3), *c[1:]])}
+    yield "a-file-too-late-and-files-missing", skipped, [
+        wrong("b:1"), f"c:1: run {NAME:016x} files 1 to 2 missing", wrong("c:4"), *whole], 5
+    yield "the-first-file-twice", {"a": text(a), "b": text(a), "c": text(b), "d": text(c)}, [
+        wrong("b:1"), "b:2: SerialNotAbove", "b:3: SerialNotAbove", *whole], 5
+    yield "files-in-another-order", {"a": text(b), "b": text(a), "c": text(c)}, [
+        wrong("b:1"), "b:2: SerialNotAbove", "b:3: SerialNotAbove", *later], 5
+    yield "a-begin-of-a-file-put-in", {"a": text(a), "b": text([b[0], b[1], changed(b[0], sum="1" * 64)]), "c": text(c)}, [wrong("b:3"), wrong("c:1"), *whole], 5
+    cut = text(b[1:2])[:99]
+    yield "torn-and-written-again-with-sums", {"a": text(a) + cut, "b": text([b[0], cut, *b[1:]]), "c": text(c)}, ["a:4: torn", "b:2: torn", *whole], 0
+
+    file_before = "2026-01-30-0123456789abcdef-000003.jsonl"
+    before = {"name": file_before, "octets": 7, "sha256": "ab" * 32}
+    names = lambda its: {"ledger": text(chained([changed(lines[0], before=its), *lines[1:]]))}
+    whole = [counted(0, "h1", 0, 3, "whole"), fates(3, 3, 0)]
+    yield "a-file-of-before", names(before), [*whole, f"run {NAME:016x} before {file_before} missing"], 0
+    for name, its in {"without-its-name": changed(before, name=None), "of-a-short-sum": changed(before, sha256="ab"), "of-no-octets": changed(before, octets=-1),
+                      "with-a-key-more": {**before, "run": "x"}, "that-is-a-text": "x"}.items():
+        yield f"a-file-of-before-{name}", names(its), [
+            "ledger:1: NotEntry", *(f"ledger:{place}: UnknownLane" for place in (2, 3, 4, 5))], 5
+
+    places = {"before-all": (0, []), "behind-its-first-line": (0, a[:1]), "within-a-file": (0, a[:2]), "behind-a-file": (0, a), "before-a-file": (1, a),
+              "within-another-file": (1, [*a, *b[:1]]), "behind-all": (2, [*a, *b, *c])}
+    whole = [counted(0, "h1", 0, 5, "whole"), fates(5, 5, 0)]
+    files = {"a": text(a), "b": text(b), "c": text(c)}
+    words = [kept(NAME, file, sum_of(its)) for file, its in places.values()]
+    for name, word in zip(places, words):
+        yield f"a-sum-{name}", files, whole, 0, ["--sum", word]
+    yield "all-these-sums", files, whole, 0, [it for word in words for it in ("--sum", word)]
+    strange = {"of-another-file": kept(NAME, 1, bytes(32)), "of-a-file-that-is-not-there": kept(NAME, 3, sum_of([*a, *b, *c])),
+               "of-a-run-that-is-not-there": kept(NAME + 1, 0, bytes(32)), "of-no-place": kept(NAME, 0, b"\1" * 32), "of-the-file-before": kept(NAME, 0, sum_of([*a, *b]))}
+    for name, word in strange.items():
+        yield f"a-sum-{name}", files, [*whole, wrong(word)], 5, ["--sum", word]
+    both = ["--sum", words[0], "--sum", strange["of-no-place"], "--sum", strange["of-another-file"]]
+    yield "sums-that-fit-and-that-do-not", files, [*whole, wrong(both[3]), wrong(both[5])], 5, both
+    yield "a-sum-of-a-run-without-sums", {"ledger": text(lines_of(one(), 2))}, [counted(0, "h1", 0, 2, "part"), wrong(words[0])], 5, ["--sum", words[0]]
+
+
+def all_cases():
+    """All cases: name, files, what is printed, status, configuration, and the words before it."""
+    plain = [*((name, *case) for name, case in {**REASONS, **LEFT_REASONS}.items()), *runs(), *accounts()]
+    for name, files, lines, status, *rest in plain:
+        yield name, sealed(files), lines, status, *rest, *(config(), [])[len(rest) :]
+    for name, files, lines, status, *words in chains():
+        yield name, files, lines, status, config(), words[0] if words else []
+    for name, files, lines, status, *rest in [*tampered(), *between_runs(), *runs_before(), *without_sums()]:
+        yield name, files, lines, status, *rest, *(config(), [])[len(rest) :]
