@@ -88,14 +88,15 @@ def a_file_that_is_there_is_left(trial):
     hope("what is told", sum(int(line.rpartition("=")[2]) for line in trial.events("ledger-left")), 200)
 
 
+def limit_files(octets):
+    """Files of this process may have so many octets, and a write beyond fails."""
+    signal.signal(signal.SIGXFSZ, signal.SIG_IGN)
+    resource.setrlimit(resource.RLIMIT_FSIZE, (octets, resource.RLIM_INFINITY))
+
+
 def a_limit_of_size_is_a_next_file(trial):
     """Where a file may not grow, the entries go on in the next one, and none is missing."""
-
-    def limit():
-        signal.signal(signal.SIGXFSZ, signal.SIG_IGN)
-        resource.setrlimit(resource.RLIMIT_FSIZE, (300_000, resource.RLIM_INFINITY))
-
-    trial.begin(before=limit, RAD_PROXY_COUNTERS="")
+    trial.begin(before=lambda: limit_files(300_000), RAD_PROXY_COUNTERS="")
     trial.ask(800)
     until("several files", lambda: len(trial.files()) > 1)
     resource.prlimit(trial.ran.pid, resource.RLIMIT_FSIZE, (resource.RLIM_INFINITY, resource.RLIM_INFINITY))
@@ -107,12 +108,7 @@ def a_limit_of_size_is_a_next_file(trial):
 
 def a_first_line_that_finds_no_room_begins_no_file_each_second(trial):
     """Where not even the first line of a file has room, one more file at most is begun in a minute. Once there is room none is missing."""
-
-    def limit():
-        signal.signal(signal.SIGXFSZ, signal.SIG_IGN)
-        resource.setrlimit(resource.RLIMIT_FSIZE, (100, resource.RLIM_INFINITY))
-
-    trial.begin(before=limit, RAD_PROXY_COUNTERS="")
+    trial.begin(before=lambda: limit_files(100), RAD_PROXY_COUNTERS="")
     trial.ask(100)
     until("it is told", lambda: trial.events("ledger-fault"))
     time.sleep(4.5)
