@@ -69,6 +69,9 @@ module _ (key : List ℕ) (value : Json) where
   pub no_text_there : None ≡ get key value → ¬ TextThere
   no_text_there e p = differ (get key value) (string p.0) e p.1
 
+  pub one_text : (t u : List ℕ) → HasText key value t → HasText key value u → t ≡ u
+  one_text t u h i = same_some t u (ap as_str (same_some (string t) (string u) (sym h ∙ i)))
+
   -- numbers
   pub no_number_there : (limit : ℕ) → None ≡ get key value → ¬ NumberThere limit
   no_number_there limit e p = differ (get key value) (number p.1.digits) e p.1.there
@@ -122,8 +125,7 @@ module _ (key : List ℕ) (value : Json) where
 
   digits_in : (digits : List ℕ) → HasText key value digits → OctetsThere → DigitsRead digits
   digits_in digits t (octets, h) =
-      let same : digits ≡ h.digits = same_some digits h.digits (ap as_str (same_some (string digits) (string h.digits) (sym t ∙ h.there))) in
-      (octets, ap decode_of same ∙ h.are)
+      (octets, ap decode_of (one_text digits h.digits t h.there) ∙ h.are)
 
   pub no_octets : (fault : LineFault) (digits : List ℕ) → HasText key value digits → Denies fault (DigitsRead digits) → Denies fault OctetsThere
   no_octets fault digits t d = denied (DigitsRead digits) OctetsThere (digits_in digits t) fault d

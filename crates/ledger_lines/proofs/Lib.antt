@@ -11,3 +11,4 @@ pub mod Members
 pub mod Behind
 pub mod Fine
 pub mod Told
+pub mod Single

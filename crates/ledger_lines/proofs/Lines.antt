@@ -5,7 +5,7 @@ use Rattle.std.specs.Bool.{IsTrue}
 use Rattle.std.proofs.Math.Bool.{beq}
 use Rattle.json.specs.Json.{Json, number}
 use Rattle.json.specs.Find.{get}
-use Rattle.ledger_lines.specs.Lines.{Denies, HasText, HasNumber, HasOctets, MayHaveNumber, MayHaveWords, HasOnly, keys_of_entry, HasRun, HasTime, HasClient, HasAuthenticator, HasLanes, HasState, MayHaveTime, keys_of_left, HasArray, MayHaveSum, MayHaveFile, HasFile, keys_of_begin, IsFileBefore, IsHidden, IsEntry, IsLeft, IsBegin, IsEnd, IsLaneStart, IsLaneCount}
+use Rattle.ledger_lines.specs.Lines.{Denies, HasText, HasNumber, HasOctets, MayHaveNumber, MayHaveWords, HasOnly, keys_of_entry, HasRun, HasTime, HasClient, HasAuthenticator, HasLanes, HasState, MayHaveTime, keys_of_left, HasArray, MayHaveSum, MayHaveFile, keys_of_begin, IsFileBefore, IsHidden, IsEntry, IsLeft, IsBegin, IsEnd, IsLaneStart, IsLaneCount}
 use Rattle.rad_ledger.specs.declared.entry.Entry.{Entry}
 use Rattle.rad_ledger.specs.declared.left.Left.{Left}
 use Rattle.rad_ledger.specs.declared.left.LeftState.{LeftState}

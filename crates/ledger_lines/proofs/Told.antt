@@ -13,7 +13,7 @@ use Rattle.json.specs.Json.{Json, string}
 use Rattle.json.specs.Find.{get}
 use Rattle.hex.specs.Hex.{IsBytes, encode_lower, lower_digits}
 use Rattle.hex.proofs.HexLemmas.{decode_of-encode_lower, length-encode_with}
-use Rattle.ledger_lines.specs.Lines.{AreEach, HasNumber, MayHaveNumber, HasOctets, HasArray, HasRun, HasClient, IsBegin, IsEnd, IsEntry, IsFileBefore, IsLaneCount, IsLaneStart, IsLeft, MayHaveFile, MayHaveSum, MayHaveTime, MayHaveWords}
+use Rattle.ledger_lines.specs.Lines.{AreEach, HasNumber, MayHaveNumber, HasOctets, HasArray, HasRun, HasClient, IsBegin, IsEnd, IsEntry, IsFileBefore, IsLaneCount, IsLaneStart, IsLeft, IsLine, IsValue, MayHaveFile, MayHaveSum, MayHaveTime, MayHaveWords}
 use Rattle.rad_config.proofs.Addresses.{address_from_text}
 use Rattle.rad_realms.specs.Address.{IsAddress}
 use Rattle.rad_realms.specs.Printed.{address_text}
@@ -25,6 +25,7 @@ use Rattle.ledger_lines.specs.declared.begin.LaneStart.{LaneStart}
 use Rattle.ledger_lines.specs.Written.{AreBytesIfAny, IsBelowIfAny, IsReadableBegin, IsReadableCount, IsReadableEnd, IsReadableEntry, IsReadableFile, IsReadableFileIfAny, IsReadableLeft, IsReadableStart, IsSumIfAny, IsTimeIfAny, begin_slots, begin_value, count_slots, count_value, digits_if_any, end_slots, end_value, entry_slots, entry_value, file_slots, file_value, items_of, left_slots, left_value, number_value, octets_value, start_slots, start_value, text_if_any}
 use Rattle.ledger_lines.specs.declared.begin.End.{End}
 use Rattle.ledger_lines.specs.declared.begin.LaneCount.{LaneCount}
+use Rattle.ledger_lines.specs.declared.reading.Line.TheVariants.{Begin as begins, Entry as enters, Left as leaves, End as ends}
 use Rattle.ledger_lines.proofs.Members.{get_found, only_names}
 
 -- ---- numbers
@@ -252,3 +253,18 @@ begin_read begin h =
         are = are_each start_value IsLaneStart IsReadableStart is_start begin.lanes.items (recursion_from_All IsReadableStart begin.lanes.items h.lanes);
       };
     }
+
+-- ---- octets that are a line's value
+
+module _ (octets : List ℕ) (most : length octets ≤ 65536) where
+  pub begin_line : (begin : Begin) → IsReadableBegin begin → IsValue octets (begin_value begin) → IsLine octets (begins begin)
+  begin_line begin h its = record { most = most; value = begin_value begin; its_value = its; is = begin_read begin h }
+
+  pub entry_line : (e : Entry) → IsReadableEntry e → IsValue octets (entry_value e) → IsLine octets (enters e)
+  entry_line e h its = record { most = most; value = entry_value e; its_value = its; is = entry_read e h }
+
+  pub left_line : (left : Left) → IsReadableLeft left → IsValue octets (left_value left) → IsLine octets (leaves left)
+  left_line left h its = record { most = most; value = left_value left; its_value = its; is = left_read left h }
+
+  pub end_line : (end : End) → IsReadableEnd end → IsValue octets (end_value end) → IsLine octets (ends end)
+  end_line end h its = record { most = most; value = end_value end; its_value = its; is = end_read end h }

@@ -1,13 +1,12 @@
 -- Which line a value is, by its type; and which line octets are.
 use Rattle.std.proofs.Common.{◌≡◌, ◌≢◌, ℕ, ◌<◌, ◌≤◌, List, length, get_or, codes, sym, ap, ◌∙◌, subst, arith}
-use Rattle.json.specs.Json.{Json, string}
-use Rattle.json.specs.Find.{as_str}
+use Rattle.json.specs.Json.{Json}
 use Rattle.ledger_lines.specs.Lines.{Denies, HasText, IsLine, IsLineOf, IsValue}
 use Rattle.ledger_lines.specs.declared.faults.LineFault.{LineFault}
 use Rattle.ledger_lines.specs.declared.reading.Line.{Line}
 use Rattle.ledger_lines.specs.declared.reading.Line.TheVariants.{Begin as begins, Entry as enters, Left as leaves, End as ends, Hidden as hides}
 use Rattle.ledger_lines.proofs.Lines.{denied, IsEntryThere, IsLeftThere, IsBeginThere, IsEndThere, IsHiddenThere}
-use Rattle.ledger_lines.proofs.Found.{same_some, TextThere}
+use Rattle.ledger_lines.proofs.Found.{same_some, one_text, TextThere}
 use Rattle.ledger_lines.proofs.Parts.{ValueThere}
 
 module _ (value : Json) (fault : LineFault) where
@@ -26,7 +25,7 @@ module _ (value : Json) (fault : LineFault) where
 
   module _ (text : List ℕ) (there : HasText (codes "type") value text) where
     one_type : (other : List ℕ) → HasText (codes "type") value other → text ≡ other
-    one_type other also = same_some text other (ap as_str (same_some (string text) (string other) (sym there ∙ also)))
+    one_type other also = one_text (codes "type") value text other there also
 
     entry_in : text ≡ codes "entry" → LineThere → IsEntryThere value fault
     entry_in e (begins b, p) = absurd (omega (arith, ap (λ xs. get_or xs 0 0) (sym e ∙ one_type (codes "begin") p.type_is)))

@@ -1,4 +1,5 @@
 pub mod Lines
 pub mod Moments
+pub mod Same
 pub mod Written
 pub mod internal
