@@ -64,10 +64,13 @@ def names_the_file_of_another_run_before(trial):
     (trial.folder / os.fsdecode(b"\xff-0123456789abcdef-000000.jsonl")).write_text("x")
     (trial.folder / "2026-01-31-0123456789abcdef-000007.jsonl").mkdir()
     (trial.folder / "2026-01-31-0123456789abcdef-000008.jsonl").symlink_to("notes.jsonl")
+    millionth = trial.folder / "2026-01-31-0123456789abcdef-1000000.jsonl"
+    written[millionth] = b"{}\n"
+    millionth.write_bytes(written[millionth])
     for age, (file, octets) in enumerate(written.items()):
         names.append({"name": file.name, "octets": len(octets), "sha256": hashlib.sha256(octets).hexdigest()})
         os.utime(file, (time.time() - 100 + age, time.time() - 100 + age))
-    for wanted in (names[1], None):
+    for wanted in (names[-1], None):
         before = set(trial.folder.iterdir())
         trial.begin()
         trial.ends()
@@ -75,7 +78,7 @@ def names_the_file_of_another_run_before(trial):
         first = json.loads(file.read_text().splitlines()[0])
         if wanted is not None:
             hope("the file before", first["before"], wanted)
-            hope("none of further files", ["before" in json.loads(octets.splitlines()[0]) for octets in written.values()], [False, False])
+            hope("none of further files", ["before" in json.loads(octets.splitlines()[0]) for octets in written.values()], [False] * 3)
             file.chmod(0)
         elif os.getuid() != 0:
             hope("a file that can't be read", "before" in first, False)

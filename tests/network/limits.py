@@ -19,17 +19,17 @@ from tests.lib import (ACCT_STATUS_TYPE, HERE, NOTHING_LEFT, PATIENCE, SECRET, S
                        states_of, try_in_folders, until, user_name)
 
 # The greatest numbers of a configuration, and how many requests pass one lane.
-HOMES, CLIENTS, PORTS, LONGEST, MANY = 64, 256, 4, 4096, 70_000
+HOMES, CLIENTS, REALMS, PORTS, LONGEST, MANY = 64, 256, 256, 4, 4096, 70_000
 # Milliseconds of which a count in 31 or 32 bits ends.
 ENDS = (1 << 31, 1 << 32)
-LONGEST_LINGER, LONGEST_SPAN, LONGEST_RING = 65_536, 600_000, 4096
+LONGEST_LINGER, LONGEST_SPAN, LONGEST_RING = 600_000, 600_000, 4096
 HALF_OF_A_BOOK = 65_536
 # How many datagrams flood a worker, and for how many seconds at most.
 MILLION, FLOODED = 1_000_000, 180
 # Over how many lanes responses are sent slowly, and how many of each.
 SENDING_LANES, SENT_EACH = 4, 60
 # How many other sockets the machine has, and behind how many of them that of the program stands.
-TABLE, BEHIND = 600, 300
+TABLE, BEHIND = 900, 600
 # How many responses the front sends together, at most.
 AT_ONCE = 9
 # How many milliseconds before and behind a moment it is looked, and how many seconds nothing may come.
@@ -75,6 +75,28 @@ def sixty_four_home_servers_each_answer_once(program, folder):
         hope("the end line", [(lane["lane"], lane["entries"]) for lane in last["lanes"]], [(lane, 1) for lane in range(HOMES)])
 
 
+def each_of_sixty_four_home_servers_is_logged(program, folder):
+    """What a lane hears in vain is logged as that of its home server."""
+    with Stage(program, folder, "", HOMES) as stage:
+        for lane in range(HOMES):
+            _, sender = arrived(stage, stage.nas.ask(f"h{lane}"), lane)
+            stage.homes[lane].ear.sendto(bytes(1), sender)
+        until("each", lambda: {line["home"] for line in stage.proxy.lines("unheard")} == {f"h{lane}" for lane in range(HOMES)})
+
+
+def the_last_of_sixty_four_home_servers_is_waited_for(program, folder):
+    """The program ends only once what is outstanding at the last home server alone is answered."""
+    with Stage(program, folder, "first_wait = 60000\n", HOMES, linger=LONGEST_LINGER) as stage:
+        asked = stage.nas.ask(f"h{HOMES - 1}")
+        packet, sender = arrived(stage, asked, HOMES - 1)
+        stage.proxy.ran.stdin.close()
+        need(not is_so(lambda: stage.proxy.ran.poll() is not None, 1.5), "it ends at once")
+        stage.homes[-1].answer(packet, sender)
+        need(stage.nas.is_answered(asked), "another response came")
+        need(is_so(lambda: stage.proxy.ran.poll() is not None), "it does not end")
+        hope("the end", (stage.proxy.ran.stdout.read().splitlines()[-1], stage.proxy.ran.returncode), (NOTHING_LEFT.encode(), 0))
+
+
 def a_drain_of_sixty_four_lanes_drains_each(program, folder):
     """The last home server alone is marked down. After `drain` each other lane is at its end, and all refuse what is new."""
     with Stage(program, folder, "tries = 1\nfirst_wait = 100\n", HOMES) as stage:
@@ -114,13 +136,39 @@ def two_hundred_fifty_six_clients_are_counted(program, folder):
         home.ear.close()
 
 
+def two_hundred_fifty_six_realms_are_counted(program, folder):
+    """The requests for the first and for the last realm are counted as theirs, where all lead to one home server."""
+    home, port = Home(), free_port()
+    text = configured(f"{HERE}:{port}", [Server("h0", home.port, secret=SECRET.decode())], secret=SECRET.decode())
+    text += "".join(f'[[realm]]\nname = "r{number}.example"\nhome = "h0"\n' for number in range(REALMS))
+    proxy = Proxy(program, folder, text, (HERE, port))
+    try:
+        proxy.start(env=environment("off") | {"RAD_PROXY_COUNTERS": str(proxy.counters)})
+        proxy.listens()
+        with bound() as nas:
+            for number in [*range(REALMS), REALMS - 1]:
+                nas.sendto(request(number % 256, user_name(f"bob@r{number}.example".encode()), SECRET), (HERE, port))
+        until("each is counted", lambda: proxy.counters.exists() and re.findall(
+            r'^rad_proxy_realm_requests_total\{realm="r(\d+).example"\} (\d+)$', proxy.counters.read_text(), re.M)
+            == [(str(number), "2" if number == REALMS - 1 else "1") for number in range(REALMS)])
+    finally:
+        proxy.kill()
+        home.ear.close()
+
+
 def the_widest_window_is_out_at_once(program, folder):
-    """As many as four ports have Identifiers for, but two, are out at once, and the time of each is measured."""
+    """As many as four ports have Identifiers for, but two, are out at once, and the time of each is measured. Once those of the first port
+    are answered, the oldest one is of another port."""
     count = 256 * PORTS - 2
     with Stage(program, folder, f"ports = {PORTS}\nwindow = {count}\nfirst_wait = 60000\n") as stage:
         out = [(stage.nas.ask(), *stage.came()) for _ in range(count)]
         hope("the ports", len({sender for _, _, sender in out}), PORTS)
-        for asked, packet, sender in out:
+        for place, (asked, packet, sender) in enumerate(out):
+            if place == 256:
+                hope("the first port", {sender for _, _, sender in out[:place]} & {sender for _, _, sender in out[place:]}, set())
+                stage.next_report()
+                stage.next_report()
+                need(values(stage, "oldest_outstanding_age_seconds")[0] > 0, "none is outstanding")
             stage.homes[0].answer(packet, sender)
             need(stage.nas.is_answered(asked), "another response came")
         for name in ("reply_seconds_count", "response_seconds_count"):
@@ -252,7 +300,8 @@ class Moved(Stage):
 
 
 def moments_go_on_behind_32_bits(program, folder):
-    """Where the clock passes what 31 and 32 bits count, requests are answered, sent again, and the home server goes down and up."""
+    """Where the clock passes what 31 and 32 bits count, requests are answered, sent again, the home server goes down and up, and when it
+    answered is told by the clock of the day."""
     with Moved(program, folder, 0, "tries = 2\nfirst_wait = 500\ndown_wait = 1000\nspan = 0\n") as stage:
         for end in ENDS:
             stage.clock.move(end - 300)
@@ -265,16 +314,22 @@ def moments_go_on_behind_32_bits(program, folder):
             stage.homes[0].answer(again, sender)
             need(stage.nas.is_answered(asked), "not answered across", end)
             need(served(stage, 0), "not answered behind", end)
+            stage.next_report()
+            stage.next_report()
+            for name in ("home_report", "last_answer"):
+                need(abs(values(stage, f"{name}_time_seconds")[0] - time.time()) < PATIENCE, name, values(stage, f"{name}_time_seconds"))
 
 
 def the_longest_linger_is_no_short_one(program, folder):
-    """With 65,536 milliseconds the program waits for an answer at its end, and ends when they are over."""
+    """With the longest the program waits for an answer at its end, and ends when it is over."""
     with Moved(program, folder, LONGEST_LINGER, "first_wait = 60000\n") as stage:
         stage.nas.ask()
         stage.came()
         stage.proxy.ran.stdin.close()
         need(not is_so(lambda: stage.proxy.ran.poll() is not None, 1.5), "it ends at once")
-        stage.clock.move(LONGEST_LINGER + 100)
+        stage.clock.move(LONGEST_LINGER - EARLY)
+        need(not is_so(lambda: stage.proxy.ran.poll() is not None, 1.5), "it ends before")
+        stage.clock.move(LONGEST_LINGER + LATE)
         need(is_so(lambda: stage.proxy.ran.poll() is not None), "it does not end")
         hope("the end", (stage.proxy.ran.stdout.read().splitlines()[-1], stage.proxy.ran.returncode),
              (b"end: queued 0 outstanding 1 untaken 0", 3))
@@ -321,6 +376,8 @@ def the_longest_times_pass(program, folder):
         need(stage.nas.is_answered(asked), "another response came")
         until("its times are measured", lambda: are_measured(stage, 1))
         answered = down + 3_600_000 + LATE
+        for name in ("reply_seconds_sum", "response_seconds_sum"):
+            need(abs(values(stage, name)[0] - answered / 1000) < EARLY / 1000, name, values(stage, name))
         stage.go_to(answered + LONGEST_SPAN - EARLY)
         stage.nas.socket.sendto(asked, stage.proxy.listen)
         need(stage.nas.is_answered(asked), "another response came again")
@@ -352,7 +409,7 @@ def an_identifier_wraps_beside_a_probe(program, folder):
 
 
 def the_longest_ring_fills(program, folder):
-    """While the front sends, 4096 responses find room, and no more is heard."""
+    """While the front sends, 4096 responses find room, besides those that it sends, and no more is heard."""
     nas = bound()
     slow = {"LD_PRELOAD": built(folder, "slow_files"), "SLOW_PORT": str(nas.getsockname()[1]), "SLOW_SEND": "300000"}
     limits = f"ring = {LONGEST_RING}\nwindow = 254\nfirst_wait = 60000\n"
@@ -372,10 +429,16 @@ def the_longest_ring_fills(program, folder):
             stage.nas.ask()
             if number % 100 == 0:
                 until("accepted", lambda: int(stage.say(b"state", 1)[0].split()[6]) >= number)
-        # The front has taken some, and is sending the first of them.
-        until("the ring is full", lambda: LONGEST_RING < answers() <= LONGEST_RING + AT_ONCE)
-        full = answers()
-        need(not is_so(lambda: answers() != full, 0.5), "more is heard")
+        def is_at_rest():
+            before = answers()
+            return before > LONGEST_RING and not is_so(lambda: answers() != before, 0.5)
+
+        until("the ring is full", is_at_rest)
+        stage.next_report()
+        stage.next_report()
+        # The front is sending the first of those that it took. Of the ninth, which waits for that, it was not reported that it was taken.
+        sent = sum(values(stage, "client_responses_total"))
+        hope("how many wait", (answers() - min(sent, AT_ONCE - 1), 0 < sent <= AT_ONCE), (LONGEST_RING, True))
 
 
 def workers_go_on_behind_a_million_turns(program, folder):
@@ -458,8 +521,11 @@ def dropped_at(place):
 
 TESTS = [
     sixty_four_home_servers_each_answer_once,
+    each_of_sixty_four_home_servers_is_logged,
+    the_last_of_sixty_four_home_servers_is_waited_for,
     a_drain_of_sixty_four_lanes_drains_each,
     two_hundred_fifty_six_clients_are_counted,
+    two_hundred_fifty_six_realms_are_counted,
     the_widest_window_is_out_at_once,
     the_longest_packets_pass_both_ways,
     one_of_each,

@@ -210,6 +210,13 @@ def the_longest_lines_are_whole(program, folder):
             f'level=debug event=dropped {client.format("client", address, "client_port", port)} {packet} reason="NoRealm" trace=1'])
 
 
+def the_longest_file_is_read(program, folder):
+    """Of a file of 4096 octets, sixteen lines of which name something, each is traced."""
+    with Tracing(program, folder) as tracing:
+        tracing.name((b"session S\n" * 15 + b"session S1\n").ljust(4096, b"\n"), "level=info event=trace count=16")
+        see_request(tracing, 1, 0, " session=S1 realm=h0.example", 16, session=b"S1")
+
+
 def what_is_removed_is_traced_no_more(program, folder):
     """Once the file names something else, or is gone, nothing is told of what it named before."""
     with Tracing(program, folder) as tracing:
@@ -283,8 +290,8 @@ def without_a_name_nothing_is_looked_at(program, folder):
 
 
 TESTS = [a_session_is_traced, a_user_is_traced_and_not_named, a_client_is_traced, what_is_not_answered_is_traced,
-         each_line_of_the_file_has_its_number, the_longest_lines_are_whole, what_is_removed_is_traced_no_more, faults_are_told_once, at_trace_each_line_is_logged_once,
-         it_begins_within_a_second, without_a_name_nothing_is_looked_at]
+         each_line_of_the_file_has_its_number, the_longest_lines_are_whole, the_longest_file_is_read, what_is_removed_is_traced_no_more,
+         faults_are_told_once, at_trace_each_line_is_logged_once, it_begins_within_a_second, without_a_name_nothing_is_looked_at]
 
 
 if __name__ == "__main__":

@@ -200,6 +200,9 @@ def runs_before():
         files = {"a": text(a), "b": text(b), "c": text(c), "d": text(named(others, last))}
         lacks = [] if last is c else [missing.replace("-000000", f"-{last[0]['file']:06}")]
         yield f"a-run-of-three-files-of-which-{file}-is-named", files, [*whole, *its, *lacks], 10 if lacks else 0, *every
+    behind, parts = chained([changed(lines[0], file=2**32), *lines[1:]]), [counted(0, "h1", 0, 3, "part"), fates(3, 3, 0)]
+    yield "a-run-whose-file-behind-32-bits-is-named", {"a": text(behind), "b": text(named(others, behind))}, [*parts, *its], 7, *every
+    yield "a-sum-of-a-file-behind-32-bits", {"a": text(behind)}, parts, 7, config(), ["--sum", kept(NAME, 2**32, sum_of(behind))]
     third = named(with_sums(NAME + 2), later)
     files = {"a": text(lines), "c": text(third)}
     yield "the-middle-run-left-out", files, [

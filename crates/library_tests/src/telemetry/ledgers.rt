@@ -39,7 +39,7 @@ enum Step {
     TellLeft,
 }
 
-/// What happens to the ledger of the lines below.
+/// What happens to the ledger of the lines below. The serials of the second lane are more than 32 bits count.
 const STEPS: &[Step] = &[
     Step::Tell,
     Step::Fail(LedgerFault::Create(2)),
@@ -60,25 +60,25 @@ const STEPS: &[Step] = &[
     Step::Fail(LedgerFault::Sync(u32::MAX)),
     Step::Tell,
     Step::GoOn,
-    Step::Lose(1, 3, 7, 10),
+    Step::Lose(1, 3, 4_294_967_303, 4_294_967_306),
     Step::Lose(0, 2, 0, 1),
-    Step::Lose(1, 1, 11, 11),
+    Step::Lose(1, 1, 4_294_967_307, 4_294_967_307),
     Step::Lose(2, 1, 0, 0),
     Step::Sum(7, 65),
     Step::Sum(8, 66),
     Step::Tell,
     Step::HandOver(0, 0),
-    Step::HandOver(1, 8),
-    Step::HandOver(1, 9),
+    Step::HandOver(1, 4_294_967_304),
+    Step::HandOver(1, 4_294_967_305),
     Step::HandOver(2, 9),
-    Step::Pass(1, 7),
+    Step::Pass(1, 4_294_967_303),
     Step::Put,
     Step::Put,
     Step::Put,
     Step::Write(1),
     Step::TellLeft,
     Step::Pass(0, 0),
-    Step::Pass(1, 8),
+    Step::Pass(1, 4_294_967_304),
     Step::Write(2),
     Step::Fail(LedgerFault::Memory),
     Step::TellLeft,
@@ -102,16 +102,16 @@ const LINES: &str =
     event=ledger-fault reason=\"can't sync\"\n\
     event=ledger-back\n\
     event=ledger-lost lane=0 count=2 from=0 to=1\n\
-    event=ledger-lost lane=1 count=4 from=7 to=11\n\
+    event=ledger-lost lane=1 count=4 from=4294967303 to=4294967307\n\
     event=ledger-file run=00000000000000ab file=7 entries=65 sum=0000000000000001000000000000000f0123456789abcdefffffffffffffffff\n\
     event=ledger-file run=00000000000000ab file=8 entries=66 sum=0000000000000001000000000000000f0123456789abcdefffffffffffffffff\n\
     event=ledger-left count=2\n\
     event=ledger-missing lane=0 from=0 to=0\n\
-    event=ledger-missing lane=1 from=8 to=9\n\
+    event=ledger-missing lane=1 from=4294967304 to=4294967305\n\
     event=ledger-fault reason=\"no memory\"\n\
     event=ledger-left count=0 left=2\n\
     event=ledger-left count=1 left=2\n\
-    event=ledger-missing lane=1 from=9 to=9\n";
+    event=ledger-missing lane=1 from=4294967305 to=4294967305\n";
 
 /// Those of them that are logged at `error`.
 const ERRORS: &str =
@@ -122,14 +122,14 @@ const ERRORS: &str =
     event=ledger-fault reason=\"can't sync\"\n\
     event=ledger-fault reason=\"can't sync\"\n\
     event=ledger-lost lane=0 count=2 from=0 to=1\n\
-    event=ledger-lost lane=1 count=4 from=7 to=11\n\
+    event=ledger-lost lane=1 count=4 from=4294967303 to=4294967307\n\
     event=ledger-left count=2\n\
     event=ledger-missing lane=0 from=0 to=0\n\
-    event=ledger-missing lane=1 from=8 to=9\n\
+    event=ledger-missing lane=1 from=4294967304 to=4294967305\n\
     event=ledger-fault reason=\"no memory\"\n\
     event=ledger-left count=0 left=2\n\
     event=ledger-left count=1 left=2\n\
-    event=ledger-missing lane=1 from=9 to=9\n";
+    event=ledger-missing lane=1 from=4294967305 to=4294967305\n";
 
 /// Lets a step happen to a ledger.
 fn happen(rt: &impl Clock, ledger: &LedgerState, log: &MemoryLog, step: Step) {
