@@ -1,7 +1,7 @@
 -- Why the ledger is not written: its number, and its text in the log (own).
 use Rattle.std.specs.Prelude.{ℕ, ℤ, pos, int_lt, unsigned_abs, ◌+◌, ◌*◌, ◌/◌, ◌%◌, ◌==◌, if◌then◌else◌, List, codes, Option, Some, None}
 use Rattle.rad_metrics.specs.declared.ledger_fault.LedgerFault.{LedgerFault}
-use Rattle.rad_metrics.specs.declared.ledger_fault.LedgerFault.TheVariants.{NoText, Memory, Gone, Create, Write, Sync}
+use Rattle.rad_metrics.specs.declared.ledger_fault.LedgerFault.TheVariants.{NoText, Memory, Gone, Create, Write, Sync, Parted}
 
 -- The number of values of a system's number.
 abbrev pub numbers : ℕ
@@ -15,6 +15,7 @@ fault_number Gone = 3 * numbers
 fault_number (Create number) = 4 * numbers + number
 fault_number (Write number) = 5 * numbers + number
 fault_number (Sync number) = 6 * numbers + number
+fault_number Parted = 7 * numbers
 
 -- The fault of a kind, with the system's number.
 abbrev pub fault_of_kind : ℕ → ℕ → Option LedgerFault
@@ -25,6 +26,7 @@ fault_of_kind kind number =
     else if kind == 4 then Some (Create number)
     else if kind == 5 then Some (Write number)
     else if kind == 6 then Some (Sync number)
+    else if kind == 7 then Some Parted
     else None
 
 -- The fault that a number stands for.
@@ -39,6 +41,7 @@ fault_step Gone = codes "the file is no longer there"
 fault_step (Create number) = codes "can't make a file"
 fault_step (Write number) = codes "can't write"
 fault_step (Sync number) = codes "can't sync"
+fault_step Parted = codes "an entry is without its packets"
 
 -- The system's number of a fault, or 0 if it has none.
 abbrev pub number_of_system : LedgerFault → ℕ

@@ -22,6 +22,8 @@ pub enum LedgerFault {
     Write(u32),
     /// A file could not be synced.
     Sync(u32),
+    /// An entry's head was handed over without its packets.
+    Parted,
 }
 
 /// The number of values of a system's number.
@@ -41,6 +43,7 @@ impl LedgerFault {
             LedgerFault::Create(number) => 4 * NUMBERS + u64::from(number),
             LedgerFault::Write(number) => 5 * NUMBERS + u64::from(number),
             LedgerFault::Sync(number) => 6 * NUMBERS + u64::from(number),
+            LedgerFault::Parted => 7 * NUMBERS,
         }
     }
 
@@ -56,6 +59,7 @@ impl LedgerFault {
             4 => Some(LedgerFault::Create(system)),
             5 => Some(LedgerFault::Write(system)),
             6 => Some(LedgerFault::Sync(system)),
+            7 => Some(LedgerFault::Parted),
             _ => None,
         }
     }
@@ -71,6 +75,7 @@ impl LedgerFault {
             LedgerFault::Create(_) => "can't make a file",
             LedgerFault::Write(_) => "can't write",
             LedgerFault::Sync(_) => "can't sync",
+            LedgerFault::Parted => "an entry is without its packets",
         }
     }
 
@@ -79,9 +84,9 @@ impl LedgerFault {
         ensures { result ≡ number_of_system self }
     {
         match self {
-            LedgerFault::NoText | LedgerFault::Memory | LedgerFault::Gone => 0,
             LedgerFault::Create(number) | LedgerFault::Write(number) | LedgerFault::Sync(number) =>
                 number,
+            _ => 0,
         }
     }
 }

@@ -1,6 +1,6 @@
 -- The buffer (own): a ring of heads, and a ring of their packets. What was put into it, and what was taken from it, are a list of heads
 -- and a list of octets, which are the packets of these heads, in order.
-use Rattle.std.specs.Prelude.{◌≡◌, ◌<◌, ◌⊎◌, ℕ, [], ◌∷◌, ◌++◌, length, take, Some}
+use Rattle.std.specs.Prelude.{◌≡◌, ◌<◌, ◌⊎◌, ℕ, [], ◌∷◌, ◌++◌, length, take, MatchBool, Some}
 use mathlib.Core.List.{IsPrefix}
 use Rattle.rtrb.specs.Ring.{known_free, known_items, received, sent}
 use Rattle.rad_lane.specs.declared.outgoing.Outgoing.{Outgoing}
@@ -47,11 +47,12 @@ pub record TakesNothing (old new : EntryBuffer) : Type 0 where
   pub held : new.held ≡ old.held
   pub room : new.room.items ≡ old.room.items
 
--- No parcel is there to be taken: no head is, or less than all packets of the first one, or that one tells of packets that are too long.
+-- No parcel is there to be taken: no head is. Or a head is without its packets, which is recorded: less than all of them are there, or it
+-- tells of packets that are too long.
 abbrev pub HasNone : EntryBuffer → Type 0
-HasNone buffer =
+HasNone buffer = MatchBool buffer.is_parted
+    ((head : ParcelHead) × IsPrefix (head ∷ []) (known_items buffer.heads) × ((length (known_items buffer.packets) < octets_of head) ⊎ (¬ Fits head)))
     (length (known_items buffer.heads) ≡ 0)
-    ⊎ ((head : ParcelHead) × IsPrefix (head ∷ []) (known_items buffer.heads) × ((length (known_items buffer.packets) < octets_of head) ⊎ (¬ Fits head)))
 
 -- The parcel that was taken last.
 pub record HoldsParcel (buffer : EntryBuffer) (parcel : Parcel) : Type 0 where

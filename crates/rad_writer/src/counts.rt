@@ -1,6 +1,6 @@
 //! What is counted of each lane in a run.
 
-ghost use Rattle.std.specs.Prelude.{◌≡◌, ◌≤◌, None, vec_len};
+ghost use Rattle.std.specs.Prelude.{◌≡◌, ◌≤◌, ◌+◌, ◌-◌, ◌^◌, None, min, vec_len};
 
 use std::alloc::{AllocError, Global};
 use std::sync::atomic::{AtomicU64, Ordering};
@@ -43,9 +43,7 @@ impl RunCounts {
     /// Records that the response of this serial of a lane was taken. A lane's serials are 0, 1, 2 and so on.
     pub(crate) fn took(&self, lane: u16, serial: u64) {
         if let Some(totals) = self.lanes.get(usize::from(lane)) {
-            totals
-                .taken
-                .store(serial.saturating_add(1), Ordering::SeqCst);
+            totals.taken.store(behind(serial), Ordering::SeqCst);
         }
     }
 
@@ -59,9 +57,7 @@ impl RunCounts {
     /// Records how many requests a lane accepted. All that is left of it was counted before.
     pub(crate) fn accepted(&self, lane: u16, count: u64) {
         if let Some(totals) = self.lanes.get(usize::from(lane)) {
-            totals
-                .accepted
-                .store(count.saturating_add(1), Ordering::SeqCst);
+            totals.accepted.store(behind(count), Ordering::SeqCst);
         }
     }
 
@@ -86,4 +82,11 @@ impl RunCounts {
             told => Some((told - 1, totals.left.load(Ordering::SeqCst))),
         }
     }
+}
+
+/// Returns the number behind this one. The greatest has none: it stands for itself.
+pub(crate) fn behind(number: u64) -> u64
+    ensures { result ≡ min (number + 1) (2 ^ 64 - 1) }
+{
+    number.saturating_add(1)
 }

@@ -17,13 +17,15 @@ pub(crate) struct EntryBuffer {
     room: Vec<u8>,
     /// The head of the parcel that was taken and is not done with.
     held: Option<ParcelHead>,
+    /// Whether the next head was found without its packets.
+    is_parted: bool,
     ghost whole: { length (received packets) ≡ all_octets (received heads) },
     ghost has_room: { vec_len room ≡ 12288 },
     ghost fits: { octets_held held ≤ 12288 },
 }
 
 impl EntryBuffer {
-    ghost use Rattle.std.specs.Prelude.{[], None, MatchOption, IfOk};
+    ghost use Rattle.std.specs.Prelude.{[], None, false, MatchOption, IfOk};
     ghost use Rattle.rad_writer.specs.Buffer.{HasNone, HoldsParcel, SameTaken, TakesNothing, TakesParcel};
 
     /// Makes the end, with room for the packets of a parcel.
@@ -37,7 +39,7 @@ impl EntryBuffer {
         heads: Consumer<ParcelHead, Global>,
     ) -> Result<EntryBuffer, AllocError>
         requires { (received packets ≡ []) × (received heads ≡ []) }
-        ensures { IfOk result (λ buffer. (buffer.held ≡ None) × (received buffer.packets ≡ []) × (received buffer.heads ≡ [])) }
+        ensures { IfOk result (λ buffer. (buffer.held ≡ None) × (buffer.is_parted ≡ false) × (received buffer.packets ≡ []) × (received buffer.heads ≡ [])) }
     {
         let mut room = Vec::with_capacity(alloc, MOST)?;
         room.resize(MOST, 0)?;
@@ -46,23 +48,37 @@ impl EntryBuffer {
             heads,
             room,
             held: None,
+            is_parted: false,
         })
     }
 
     /// Takes the next parcel, if there is one and none is held. A head is there only once its packets are, so one without
-    /// them can't be found. It would wait for them.
+    /// them can't be found. It would wait for them, and be reported.
     pub(crate) fn take(&mut self)
         ensures takes { MatchOption self.old.held (MatchOption self.new.held (TakesNothing self.old self.new) (λ head. TakesParcel self.old head self.new)) (λ _. TakesNothing self.old self.new) }
-        ensures none { MatchOption self.old.held (MatchOption self.new.held (HasNone self.new) (λ _. Unit {0})) (λ _. Unit {0}) }
+        ensures none { MatchOption self.old.held (MatchOption self.new.held (HasNone self.new) (λ _. self.new.is_parted ≡ false)) (λ _. self.new.is_parted ≡ self.old.is_parted) }
     {
-        if self.held.is_some() || self.heads.is_empty() {
+        if self.held.is_some() {
+            return;
+        }
+        self.is_parted = false;
+        if self.heads.is_empty() {
             return;
         }
         let head = *self.heads.peek_known();
         if head.fits() && take_octets(&mut self.packets, head.octets(), &mut self.room) {
             self.heads.pop_known();
             self.held = Some(head);
+        } else {
+            self.is_parted = true;
         }
+    }
+
+    /// Returns whether the next head was found without its packets.
+    pub(crate) fn is_parted(&self) -> bool
+        ensures { result ≡ self.now.is_parted }
+    {
+        self.is_parted
     }
 
     /// Returns the parcel that is held, if there is one.
@@ -75,7 +91,7 @@ impl EntryBuffer {
 
     /// Ends the parcel that is held.
     pub(crate) fn pass(&mut self)
-        ensures { (self.new.held ≡ None) × SameTaken self.old self.new }
+        ensures { (self.new.held ≡ None) × (self.new.is_parted ≡ self.old.is_parted) × SameTaken self.old self.new }
     {
         self.held = None;
     }

@@ -1,10 +1,10 @@
 //! The thread that writes the entries to files.
 
-ghost use Rattle.std.specs.Prelude.{◌≡◌, ◌≤◌, ◌+◌, [], ◌∷◌, slice_range, vec_len};
+ghost use Rattle.std.specs.Prelude.{◌≡◌, ◌≤◌, ◌+◌, ◌-◌, ◌^◌, ◌==◌, if◌then◌else◌, [], ◌∷◌, get_or, min, slice_range, slice_set, vec_len};
 ghost use Rattle.std.specs.Int.{from_be_bytes, w64};
 ghost use Rattle.ledger_files.specs.Batches.{HoldsLines};
 
-use crate::counts::RunCounts;
+use crate::counts::{RunCounts, behind};
 use crate::entry_buffer::EntryBuffer;
 use crate::lines::{FileStart, begin_line, end_line};
 use crate::run_names::RunNames;
@@ -140,15 +140,19 @@ impl LedgerWriter {
 
 impl LineSource {
     /// Counts an entry of this lane and serial as written to the file that is open.
-    fn pass(&mut self, lane: u16, serial: u64) {
+    fn pass(&mut self, lane: u16, serial: u64)
+        ensures next { self.new.next.items ≡ slice_set self.old.next.items lane (min (serial + 1) (2 ^ 64 - 1)) }
+        ensures first { self.new.first.items ≡ (if get_or self.old.held.items lane 0 == 0 then slice_set self.old.first.items lane serial else self.old.first.items) }
+        ensures held { self.new.held.items ≡ slice_set self.old.held.items lane (min (get_or self.old.held.items lane 0 + 1) (2 ^ 64 - 1)) }
+    {
         self.state.write(lane, serial);
         let lane = usize::from(lane);
-        put_at(&mut self.next, lane, serial.saturating_add(1));
+        put_at(&mut self.next, lane, behind(serial));
         let held = number_at(&self.held, lane);
         if held == 0 {
             put_at(&mut self.first, lane, serial);
         }
-        put_at(&mut self.held, lane, held.saturating_add(1));
+        put_at(&mut self.held, lane, behind(held));
     }
 
     /// Records that the next file is begun. If the one before is gone, the entries that were written to it are lost.
@@ -193,6 +197,7 @@ impl<R: Clock + Threads + Sync, D: LedgerDisk + Drop> Session<'_, R, D> {
         let is_again = was_failing && self.files.disk().size() > 0;
         match fault {
             LedgerFault::Gone => true,
+            LedgerFault::Parted => false,
             LedgerFault::Sync(_) => is_again && self.is_anew(),
             _ if self.files.is_begun() => is_again,
             _ => is_again && self.is_anew(),
@@ -263,6 +268,7 @@ impl<R: Clock + Threads + Sync, D: LedgerDisk + Drop> Session<'_, R, D> {
                 }
                 return match self.sync_fault {
                     Some(fault) => Err(fault),
+                    None if self.source.entries.is_parted() => Err(LedgerFault::Parted),
                     None => Ok(()),
                 };
             }
@@ -525,7 +531,9 @@ impl<R: Clock + Threads + Sync, D: LedgerDisk + Drop> Session<'_, R, D> {
 }
 
 /// Returns the number of a lane, or 0 if there is none.
-fn number_at(numbers: &[u64], lane: usize) -> u64 {
+fn number_at(numbers: &[u64], lane: usize) -> u64
+    ensures { result ≡ get_or numbers.now lane 0 }
+{
     match numbers.get(lane) {
         Some(number) => *number,
         None => 0,
@@ -533,7 +541,9 @@ fn number_at(numbers: &[u64], lane: usize) -> u64 {
 }
 
 /// Sets the number of a lane, if there is one.
-fn put_at(numbers: &mut Vec<u64>, lane: usize, number: u64) {
+fn put_at(numbers: &mut Vec<u64>, lane: usize, number: u64)
+    ensures { numbers.new.items ≡ slice_set numbers.old.items lane number }
+{
     if let Some(place) = numbers.get_mut(lane) {
         *place = number;
     }

@@ -59,6 +59,8 @@ const STEPS: &[Step] = &[
     Step::GoOn,
     Step::Fail(LedgerFault::Sync(u32::MAX)),
     Step::Tell,
+    Step::Fail(LedgerFault::Parted),
+    Step::Tell,
     Step::GoOn,
     Step::Lose(1, 3, 4_294_967_303, 4_294_967_306),
     Step::Lose(0, 2, 0, 1),
@@ -100,6 +102,7 @@ const LINES: &str =
     event=ledger-dropped count=1\n\
     event=ledger-fault reason=\"can't sync\"\n\
     event=ledger-fault reason=\"can't sync\"\n\
+    event=ledger-fault reason=\"an entry is without its packets\"\n\
     event=ledger-back\n\
     event=ledger-lost lane=0 count=2 from=0 to=1\n\
     event=ledger-lost lane=1 count=4 from=4294967303 to=4294967307\n\
@@ -121,6 +124,7 @@ const ERRORS: &str =
     event=ledger-dropped count=1\n\
     event=ledger-fault reason=\"can't sync\"\n\
     event=ledger-fault reason=\"can't sync\"\n\
+    event=ledger-fault reason=\"an entry is without its packets\"\n\
     event=ledger-lost lane=0 count=2 from=0 to=1\n\
     event=ledger-lost lane=1 count=4 from=4294967303 to=4294967307\n\
     event=ledger-left count=2\n\

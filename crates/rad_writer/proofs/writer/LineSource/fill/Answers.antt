@@ -105,7 +105,7 @@ loop-made-preserved g c = record {
         record {
           more = so.more ++ one ∷ [];
           made = so.made ++ line ∷ [];
-          passed = subst (HasPassed c.pass.new.self) (append_assoc before so.more (one ∷ [])) (passed_one c.take.new.self c.pass.new.self (before ++ so.more) parcel.head holds.held c.pass.ensures.0 c.pass.ensures.1 taken);
+          passed = subst (HasPassed c.pass.new.self) (append_assoc before so.more (one ∷ [])) (passed_one c.take.new.self c.pass.new.self (before ++ so.more) parcel.head holds.held c.pass.ensures.0 c.pass.ensures.2 taken);
           are = one_line c.args.self.now.names so.more so.made one line so.are is;
           days = days.1;
           runs = subst (IsRun (g.D.LedgerDisk.files c.add.new.self.disk) c.add.new.self) (append_assoc lines so.made (line ∷ [])) (c.in_ok-add.ensures.run (lines ++ so.made) so.runs);
