@@ -92,6 +92,7 @@ impl<D: LedgerDisk + Drop> RunFiles<D> {
     /// Removes the lines of entries, all of which are written.
     pub fn clear(&mut self)
         requires { self.old.batch.whole ≡ vec_len self.old.batch.ends }
+        ensures none { HoldsLines self.new.batch [] }
         ensures last { (self.new.last ≡ self.old.last) × (self.new.chain ≡ self.old.chain) }
         ensures run { (lines : List (List ℕ)) → IsRun (D.files self.old.disk) self.old lines → IsRun (D.files self.new.disk) self.new lines }
     {
