@@ -16,6 +16,20 @@ class Parser(argparse.ArgumentParser):
         raise Fault(f"{message}; {self.prog.split()[0]} --help has the usage", USAGE)
 
 
+class Terminal:
+    """An output at a terminal: what is not printable, such as what turns the direction of a line, is escaped on its way there."""
+
+    def __init__(self, stream):
+        self.stream = stream
+
+    def write(self, text):
+        self.stream.write("\n".join("\t".join(map(printable, line.split("\t"))) for line in text.split("\n")))
+        return len(text)
+
+    def __getattr__(self, name):
+        return getattr(self.stream, name)
+
+
 def stop(*_):
     raise KeyboardInterrupt
 
@@ -39,11 +53,21 @@ def status_of(name, main):
     return status
 
 
+def open_outputs():
+    """Opens what is closed of standard input and both outputs, so that no other file takes its place, and has the outputs escape."""
+    while (number := os.open(os.devnull, os.O_RDWR)) <= 2:
+        pass
+    os.close(number)
+    for number, output in ((1, "stdout"), (2, "stderr")):
+        stream = getattr(sys, output) or open(number, "w", closefd=False)
+        stream.reconfigure(errors="backslashreplace")
+        setattr(sys, output, Terminal(stream) if stream.isatty() else stream)
+
+
 def end(name, main):
     """Runs a tool, and ends it. What can't be written as text is written with escapes."""
     signal.signal(signal.SIGTERM, stop)
-    sys.stdout.reconfigure(errors="backslashreplace")
-    sys.stderr.reconfigure(errors="backslashreplace")
+    open_outputs()
     status = status_of(name, main)
     try:
         sys.stdout.flush()

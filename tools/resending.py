@@ -7,6 +7,7 @@ from datetime import datetime, timezone
 
 from trial import radius
 from trial.faults import Fault, shown_path, told_by
+from trial.settings import ADDRESS, HOME_NAME
 
 MOST_OF_A_LINE = 65_536
 DELAY_TIME, VENDOR_SPECIFIC = radius.DELAY_TIME, 26
@@ -55,8 +56,7 @@ class Left:
         try:
             home, record, state, client = (line[key] for key in ("home", "record", "state", "client"))
             request, since = bytes.fromhex(line["request"]), moment_of(line.get("accepted", line["time"]))
-            kinds = ((home, str), (record, int), (client, str))
-            if not all(isinstance(value, kind) for value, kind in kinds) or state not in STATES:
+            if not HOME_NAME.fullmatch(home) or not ADDRESS.fullmatch(client) or type(record) is not int or state not in STATES:
                 raise ValueError
             radius.attributes_of(request)
         except (KeyError, TypeError, ValueError, radius.NoPacket):
@@ -98,6 +98,15 @@ def as_radclient(attributes):
     return "".join(f"Attr-{kind} = 0x{value.hex()}\n" for kind, value in attributes)
 
 
+def lines_of(file):
+    """The lines of a file. Of one that is too long the front is enough."""
+    while line := file.readline(MOST_OF_A_LINE + 2):
+        rest = line
+        while len(rest) == MOST_OF_A_LINE + 2 and not rest.endswith(b"\n"):
+            rest = file.readline(MOST_OF_A_LINE + 2)
+        yield line
+
+
 class Ledger:
     """What files of a ledger have that matters here: the records that were left, and those that were answered.
 
@@ -114,13 +123,14 @@ class Ledger:
                 raise Fault(f"{shown_path(path)}: {told_by(error)}") from None
 
     def read(self, file, name):
-        at = 0
-        while line := file.readline(MOST_OF_A_LINE + 2):
-            at += 1
+        for at, line in enumerate(lines_of(file), 1):
             self.take(line, f"{name}:{at}")
 
     def take(self, line, place):
         """A line of a run that was killed may be torn: it is left to rad_audit to say what is wrong."""
+        if len(line) > MOST_OF_A_LINE + 1:
+            self.told.append(f"{place}: a line of more than {MOST_OF_A_LINE} octets")
+            return
         try:
             found = json.loads(line)
             kind = found["type"]

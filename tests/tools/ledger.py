@@ -26,7 +26,7 @@ import subprocess
 import sys
 import threading
 import time
-from collections import defaultdict
+from collections import Counter, defaultdict
 from dataclasses import dataclass
 
 from tests.lib import (ACCT_SESSION_ID, ACCT_STATUS_TYPE, PROXY_STATE, TOP, Lane, Run, attribute, audit_model, environment, free_ports,
@@ -386,6 +386,28 @@ def tables_are_right(program, folder):
         hope("the rows", sorted(made.execute("SELECT * FROM entries"), key=str), sorted(rows_of(records), key=str))
 
 
+def no_text_of_a_table_is_a_formula(program, folder):
+    """A text that a spreadsheet takes for a formula gets an apostrophe, and a number none; `--raw` leaves both, and so does a database."""
+    stage, ledger = Stage(program, folder), Ledger(folder, 7, "=run.jsonl")
+    names = [b"=1+1", b"+49", b"-5", b"@SUM(A1)", b"a=b", b"'x", b"5"]
+    for name in names:
+        ledger.add(name, STOP, user=name + b"@=example", volumes=(1, 2, 3))
+    ledger.write()
+    texts = [it.decode() for it in names]
+    for words, mark in ((["--raw"], ""), ([], "'")):
+        out, _ = stage.told(WHOLE, "csv", *words, stage.config, ledger.path.name, cwd=folder)
+        lines = [dict(zip(COLUMNS, line)) for line in csv.reader(io.StringIO(out))][1:]
+        marked = [mark + it if it[0] in "=+-@" else it for it in texts]
+        hope("sessions", [it["session"] for it in lines], marked)
+        hope("users", [it["user"] for it in lines], [f"{it}@=example" for it in marked])
+        hope("realms and files", {(it["realm"], it["file"]) for it in lines}, {(f"{mark}=example", f"{mark}=run.jsonl")})
+        hope("numbers", {(it["line"][0], it["input"], it["seconds"], it["status"]) for it in lines} >= {("2", "1", "3", "2")}, True)
+    database = pathlib.Path(folder, "it.db")
+    stage.told(WHOLE, "import", database, stage.config, ledger.path)
+    with contextlib.closing(sqlite3.connect(database)) as made:
+        hope("a database", [it for it, in made.execute("SELECT session FROM entries ORDER BY serial")], texts)
+
+
 def volumes_of_64_bits_are_kept(program, folder):
     """The greatest counts are in each form as they are."""
     stage, ledger, most = Stage(program, folder), Ledger(folder, 7), 2**64 - 1
@@ -566,6 +588,25 @@ def details_are_compared(program, folder):
     runs[1].path.write_bytes(whole[: whole.rindex(b"{")])
     audited = subprocess.run([stage.auditor, stage.config, *paths], capture_output=True, check=False).returncode
     hope("of a time", see(audited, paths, ["".join(texts[6:])], *day)[1], [6, 0, 0, 0, 0])
+
+
+def a_comparison_takes_bounded_memory(program, folder):
+    """A hundred thousand records, of which each tenth is in one of both alone, and one is there a hundred times, take less than 60 MiB."""
+    stage, count = Stage(program, folder), 100_000
+    stage.auditor = rows_of_a_program(stage, (("0/ledger.jsonl", at, "0" * 16, 0, at, at, "2026-01-31T00:00:01.000Z", "192.0.2.10", 1646, 9, "billing",
+                                               "example.org", f"S{at:050}", "bob@example.org", STOP, 1, 2, 3, "answered") for at in range(count)))
+    detail = lambda at: DETAIL.format(second=0, kind="Stop", session=f"S{at:050}", mark=mark(0, at)[2:].hex(), moment=MIDNIGHT)
+    kept = [it for it in range(count) if it % 10] + [count + it for it in range(0, count, 10)] + [1] * 99
+    path = stage.write("detail", "".join(map(detail, kept)).encode())
+    words = [sys.executable, TOOLS / "rad_ledger", *stage.words("reconcile", "--home", "billing", "--ledger", "/dev/null", stage.config, path)]
+    ran = subprocess.run([sys.executable, "-c", MEASURED, *words], capture_output=True, text=True, check=False)
+    *lines, last = ran.stdout.splitlines()
+    hope("the counts", list(map(int, re.findall(r"\d+", last))), [89_999, 1, 10_000, 10_000, 0])
+    hope("the lines", Counter(it.partition(":")[0] for it in lines),
+         {"in the ledger alone": 10_000, "twice in the detail files": 1, "in the detail files alone": 10_000})
+    memory = int(ran.stderr.split()[-1]) / 1024
+    hope("memory", memory < 60 or memory, True)
+    hope("of one that is there a hundred times", [it.endswith(", 80 more") for it in lines if it.startswith("twice")], [True])
 
 
 def freeradius_writes_details(program, folder):
@@ -788,6 +829,71 @@ def one_home_servers_records_are_handed_out(program, folder):
         hope(f"{words}", (ran.returncode in (1, 4), ran.stdout, ran.stderr.count(b"\n")), (True, b"", 1))
 
 
+def what_is_handed_out_is_its_owners_alone(program, folder):
+    """The folder and its files are the owner's alone, whatever the umask; a folder that is there stays as it is."""
+    stage, (ledger, _) = Stage(program, folder), two_runs(folder)
+    for mask in (0, 0o022, 0o777):
+        out, before = stage.folder / f"out-{mask:o}" / "it", os.umask(0o022)
+        out.parent.mkdir()
+        os.umask(mask)
+        try:
+            ran = running.run("rad_ledger", "hand-out", "--home", "billing", str(out), str(ledger.path))
+        finally:
+            os.umask(before)
+        modes = [it.stat().st_mode & 0o777 for it in (out, *out.iterdir())]
+        hope(f"{mask:o} {ran.stderr}", (ran.returncode, modes), (0, [0o700, 0o600]))
+    there = stage.folder / "there"
+    there.mkdir(mode=0o755)
+    running.run("rad_ledger", "hand-out", "--home", "billing", str(there), str(ledger.path))
+    hope("one that is there", [it.stat().st_mode & 0o777 for it in (there, *there.iterdir())], [0o755, 0o600])
+
+
+def at_a_terminal(*words):
+    """What a tool prints on a terminal, with both outputs there."""
+    own, other = pty.openpty()
+    ran = subprocess.Popen([sys.executable, *map(str, words)], stdin=subprocess.DEVNULL, stdout=other, stderr=other)
+    os.close(other)
+    octets = b""
+    with contextlib.suppress(OSError):
+        while found := os.read(own, 65_536):
+            octets += found
+    os.close(own)
+    ran.wait()
+    return octets.decode().replace("\r\n", "\n")
+
+
+def nothing_turns_a_terminal(program, folder):
+    """Control characters and what turns the direction of a line are escaped at a terminal, in each tool, and left as they are elsewhere."""
+    stage, ledger, odd = Stage(program, folder), Ledger(folder, 7), "\u202eabc\u2066\x9b1m\u200f"
+    ledger.add(odd.encode(), user=odd.encode())
+    ledger.write()
+    config = stage.write("other.toml", f'listen = "{odd}"\n'.encode())
+    convert = stage.write("proxy.conf", f'client "{odd}" {{\n type udp\n secret "{odd}"\n}}\nNo{odd} x\n'.encode())
+    calls = {
+        "rad_ledger": [stage.words("csv", stage.config, ledger.path), stage.words("find", odd, ledger.path)],
+        "rad_trial": [[config, odd], ["--proxy", odd, config, odd]],
+        "rad_resend": [[stage.config, odd], ["--source", odd, stage.config, ledger.path]],
+        "rad_convert": [["radsecproxy", convert], ["radsecproxy", odd], [odd]],
+    }
+    for name, several in calls.items():
+        for words in several:
+            out = at_a_terminal(TOOLS / name, *words).replace("\x1b[K", "").replace("\r", "")
+            hope(f"{name} {words}: {out}", (bool(out), [it for it in out if not it.isprintable() and it not in "\n\t"]), (True, []))
+    out, _ = stage.told(WHOLE, "csv", stage.config, ledger.path, stdout=subprocess.PIPE)
+    hope("a file", "\u202eabc\u2066" in out, True)
+
+
+def outputs_may_be_closed(program, folder):
+    """Without an output a tool ends by a status, and writes into nothing else."""
+    stage, (ledger, _) = Stage(program, folder), two_runs(folder)
+    kept = ledger.path.read_bytes()
+    for closed in ("<&-", ">&-", "2>&-", ">&- 2>&-", "<&- >&- 2>&-"):
+        words = [sys.executable, TOOLS / "rad_ledger", *stage.words("sum", stage.config, ledger.path)]
+        ran = subprocess.run(["sh", "-c", f'exec "$@" {closed}', "sh", *map(str, words)], capture_output=True, text=True, check=False)
+        hope(f"{closed} {ran.stderr}", (ran.returncode, "Traceback" in ran.stderr), (stage.whole, False))
+    hope("unchanged", ledger.path.read_bytes(), kept)
+
+
 def times_that_do_not_exist_are_told(program, folder):
     """A line's time may have any digits: it is printed and compared as it stands."""
     stage, ledger = Stage(program, folder), Ledger(folder, 7)
@@ -915,9 +1021,10 @@ def write_long(path, octets):
 
 
 TESTS = [records_are_found, paragraphs_have_all, many_records_are_all_told, each_form_is_read, the_verdict_is_the_auditors,
-         sums_are_right, tables_are_right, volumes_of_64_bits_are_kept, an_import_is_whole_or_nothing, errors_are_one_line,
-         details_are_compared, freeradius_writes_details, cut_anywhere_it_is_right_or_refused, spoiled_anywhere_it_ends_in_words,
-         what_was_left_is_told, one_home_servers_records_are_handed_out, times_that_do_not_exist_are_told, it_can_be_stopped, names_are_printed, progress_is_shown_at_a_terminal]
+         sums_are_right, tables_are_right, no_text_of_a_table_is_a_formula, volumes_of_64_bits_are_kept, an_import_is_whole_or_nothing, errors_are_one_line,
+         details_are_compared, a_comparison_takes_bounded_memory, freeradius_writes_details, cut_anywhere_it_is_right_or_refused, spoiled_anywhere_it_ends_in_words,
+         what_was_left_is_told, one_home_servers_records_are_handed_out, what_is_handed_out_is_its_owners_alone, nothing_turns_a_terminal,
+         outputs_may_be_closed, times_that_do_not_exist_are_told, it_can_be_stopped, names_are_printed, progress_is_shown_at_a_terminal]
 LONG = [a_gigabyte_takes_bounded_time_and_memory]
 
 

@@ -220,6 +220,26 @@ def what_is_wrong_is_told(_, folder):
         hope(word, (done.returncode, done.stderr, "rad_resend" in done.stdout), (0, "", True))
 
 
+def a_line_is_named_whatever_is_wrong(_, folder):
+    """Names and addresses that are none, texts with a line end or a NUL, and lines that are too long: each is named once, and the others go on."""
+    room = Room(folder)
+    room.leave(START)
+    bad = [{"client": it} for it in ("here", "127.0.0.1\0", "127.0.0.01", "1", "", "127.0.0.1\n", ["127.0.0.1"])]
+    bad += [{"home": it} for it in ("h1\nUser-Name = x", "", "h1\0", "\u202eh1", [])] + [{"record": it} for it in (True, "1", 1.5, None)]
+    for keys in bad:
+        room.leave(START, **keys)
+    with room.ledger.open("a") as file:
+        for size in (65_536, 65_537, 65_538, 65_539, 200_000):
+            line = json.dumps({"type": "hidden", "sum": ""})
+            file.write(line + " " * (size - len(line)) + "\n")
+    room.leave(START + attribute(44, b"last"))
+    done = room.ask()
+    lines, last = [line.split(":") for line in done.stderr.splitlines()[:-2]], 2 + len(bad)
+    hope("lines", [int(line[2]) for line in lines], [*range(2, last), *range(last + 1, last + 5)])
+    hope("too long", [line[3] for line in lines if "octets" in line[3]], [" a line of more than 65536 octets"] * 4)
+    hope("printed", (done.returncode, done.stdout.count("#")), (3, 2))
+
+
 def what_a_proxy_left_is_sent(program, folder):
     """Of a ledger that the program wrote, what was queued is printed, but for a record that a later run answered."""
     ledger = folder / "ledger"
@@ -260,7 +280,7 @@ def many_are_printed_in_time(_, folder):
 TESTS = [
     queued_ones_are_printed, radclient_sends_what_came, a_delay_counts_from_the_acceptance, what_was_answered_since_is_left_out,
     a_record_left_twice_is_printed_once, what_radclient_would_change_is_told, one_home_server_at_a_time, what_is_wrong_is_told,
-    many_are_printed_in_time, what_a_proxy_left_is_sent,
+    a_line_is_named_whatever_is_wrong, many_are_printed_in_time, what_a_proxy_left_is_sent,
 ]
 
 

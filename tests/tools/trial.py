@@ -342,6 +342,28 @@ def a_script_is_never_too_long(program, folder):
     hope("its requests", sum(line.startswith("nas: new ") for line in replayed(program, path)), count)
 
 
+def a_script_is_its_owners_alone(program, folder):
+    """A script has the secrets. It takes the place of a file that others may read, or have open, and of nothing but a regular file."""
+    traffic, (config, capture, path) = Traffic(), (pathlib.Path(folder, name) for name in ("c.toml", "c.pcap", "script"))
+    config.write_text(configuration())
+    traffic.ask()
+    capture.write_bytes(pcap(traffic.frames()))
+    path.write_text("before")
+    path.chmod(0o644)
+    link, pipe = pathlib.Path(folder, "link"), pathlib.Path(folder, "pipe")
+    link.symlink_to(config)
+    os.mkfifo(pipe)
+    with path.open("rb") as before:
+        ran = tool("--script", path, config, capture)
+        hope("who has it open", (ran.returncode, before.read()), (0, b"before"))
+    hope("who may read it", (path.stat().st_mode & 0o777, SECRET in path.read_bytes()), (0o600, True))
+    kept = sorted(pathlib.Path(folder).iterdir()), config.read_bytes()
+    for other in (link, pipe, folder, "/dev/null"):
+        ran = tool("--script", other, config, capture)
+        hope(other, (ran.returncode, ran.stdout, ran.stderr.decode()), (4, b"", f"rad_trial: {other}: no regular file\n"))
+    hope("what is there", (sorted(pathlib.Path(folder).iterdir()), config.read_bytes(), link.is_symlink()), (*kept, True))
+
+
 def snapshot():
     """What a trial may not change: addresses, routes, mounts, and what is in the folder of temporary files."""
     told = [subprocess.run(["ip", *words.split()], capture_output=True, check=False).stdout
@@ -554,7 +576,7 @@ def see_bounds(program, folder, count, more):
 
 TESTS = [a_capture_is_begun, each_fate_is_counted, each_form_is_played, both_sides_are_in_the_capture, an_outage_fills_the_queue,
          an_outage_may_come_later, answers_take_their_time, datagrams_that_the_system_drops_are_lost, odd_names_are_played,
-         warnings_are_told, two_homes_of_one_address_are_two, a_script_has_the_same, a_script_is_never_too_long, nothing_else_is_touched,
+         warnings_are_told, two_homes_of_one_address_are_two, a_script_has_the_same, a_script_is_never_too_long, a_script_is_its_owners_alone, nothing_else_is_touched,
          nothing_is_left_after_a_kill, faults_are_one_line, configurations_are_read_alike, users_are_told_of_root,
          a_capture_of_a_proxy_is_played, requests_take_bounded_time_and_memory]
 LONG = [as_many_requests_as_it_takes_have_bounds]

@@ -199,7 +199,7 @@ class Audit:
             number, octets = self.position(numbers) or self.at
             share = f"{100 * (before[number] + octets) // whole} % of " if whole else ""
             text = f"\r{share}{whole / 1e6:.0f} MB, file {number + 1} of {len(self.sources)}, {self.found} found"
-            print(text, end="\x1b[K", file=sys.stderr, flush=True)
+            print(text, end="\x1b[K", file=sys.__stderr__, flush=True)
             self.has_ended.wait(APART)
 
     def position(self, numbers):
@@ -219,7 +219,7 @@ class Audit:
         self.has_ended.set()
         if self.shower.is_alive():
             self.shower.join()
-            print("\r\x1b[K", end="", file=sys.stderr, flush=True)
+            print("\r\x1b[K", end="", file=sys.__stderr__, flush=True)
 
 
 @contextlib.contextmanager

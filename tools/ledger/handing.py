@@ -35,14 +35,33 @@ def handed(line, home):
     return b'{"type":"hidden","sum":"%s"}' % hashlib.sha256(line + b"\n").hexdigest().encode(), False
 
 
+def make_folder(path):
+    """Makes a folder, if there is none, which only its owner may enter."""
+    os.makedirs(os.path.dirname(os.path.abspath(path)), exist_ok=True)
+    try:
+        os.mkdir(path)
+    except FileExistsError:
+        if not os.path.isdir(path):
+            raise
+        return
+    os.chmod(path, 0o700)
+
+
+def make_file(path):
+    """Makes a new file, which only its owner may read."""
+    number = os.open(path, os.O_WRONLY | os.O_CREAT | os.O_EXCL, 0o600)
+    os.fchmod(number, 0o600)
+    return open(number, "wb")
+
+
 def hand_out(home, folder, paths):
     """Writes the files into a folder, none over another one, and gives the line that tells of them."""
     records = others = 0
     sources = sources_of(paths)
     try:
-        os.makedirs(folder, exist_ok=True)
+        make_folder(folder)
         for source in sources:
-            with open(os.path.join(folder, source.name), "xb") as file:
+            with make_file(os.path.join(folder, source.name)) as file:
                 for line in lines_in(source.octets(lambda _: None)):
                     octets, is_record = handed(line, home)
                     if octets is not None:

@@ -16,15 +16,25 @@ NUMBERS = {"line", "lane", "serial", "record", "port", "identifier", "status", "
 LONG = {"record", "input", "output"}
 # How long another program may keep the database locked.
 SECONDS_LOCKED = 3
+# With what a text begins that a spreadsheet takes for a formula.
+OF_A_FORMULA = ("=", "+", "-", "@")
 
 
-def csv_lines(audit, choice):
+def csv_cell(name, text):
+    """What a table has of a value: nothing where it is missing, and an apostrophe before a text that a spreadsheet takes for a formula."""
+    if text == NONE:
+        return ""
+    return f"'{text}" if name not in NUMBERS and text.startswith(OF_A_FORMULA) else text
+
+
+def csv_lines(audit, choice, is_raw):
     """The lines of a table (RFC 4180, with line feeds), and the verdict behind them. What is missing is empty."""
     text, head = io.StringIO(), ",".join(Row._fields)
     writer = csv.writer(text, lineterminator="")
     for row in audit.rows(choice):
         if choice.is_within(row):
-            writer.writerow("" if it == NONE else it for it in row._replace(file=audit.file(row)))
+            row = row._replace(file=audit.file(row))
+            writer.writerow(("" if it == NONE else it for it in row) if is_raw else map(csv_cell, Row._fields, row))
             yield from filter(None, (head, text.getvalue()))
             text.seek(0)
             text.truncate()

@@ -1,17 +1,41 @@
 """Compares a ledger with the detail files of a home server."""
 import argparse
 import calendar
+import contextlib
+import itertools
+import sqlite3
 import time
-from dataclasses import dataclass, field
+
+from trial.faults import Fault
 
 from .auditing import audit_of, sources_of
 from .details import details
 from .finding import kind_of
-from .rows import Row, visible
+from .rows import visible
 
 DIFFERS = 11
 # How many seconds before its answer a record may have come to its home server, and by how many the two clocks may differ.
 DAY, CLOCKS = 86_400, 5
+# How many places are told of a record that is in detail files more than once.
+MOST_PLACES = 20
+
+# The records of the ledger, where each is in detail files, and those that are in detail files alone. It takes 8 MB of memory.
+SCHEMA = """
+PRAGMA journal_mode = OFF;
+PRAGMA cache_size = -8192;
+BEGIN;
+CREATE TABLE kept (id INTEGER PRIMARY KEY, lane, record, session, status, moment, told);
+CREATE INDEX numbers ON kept (lane, record);
+CREATE TABLE seen (id INTEGER PRIMARY KEY, kept INTEGER, place);
+CREATE INDEX places ON seen (kept);
+CREATE TABLE alone (id INTEGER PRIMARY KEY, told);
+"""
+KEEP = "INSERT INTO kept (lane, record, session, status, moment, told) VALUES (?, ?, ?, ?, ?, ?)"
+NEAREST = """
+SELECT id FROM kept WHERE lane = :lane AND record = :record AND session = :session AND (:status IS NULL OR status = :status)
+AND (:seen IS NULL OR moment - :seen BETWEEN -:clocks AND :within) ORDER BY abs(moment - :seen), id LIMIT 1
+"""
+PLACES = "SELECT kept.id, told, place FROM kept LEFT JOIN seen ON kept.id = seen.kept ORDER BY kept.id, seen.id"
 
 
 def add_words(parser, ledger):
@@ -28,45 +52,34 @@ def seconds(text):
     raise argparse.ArgumentTypeError(f"no seconds: {text!r}")
 
 
-@dataclass
-class Kept:
-    """A record of the ledger, its place, and the places of it in detail files."""
+def moment_of(row):
+    """Seconds since 1970 of a record's line; None for a time that does not exist."""
+    try:
+        return calendar.timegm(time.strptime(row.time[:19], "%Y-%m-%dT%H:%M:%S"))
+    except ValueError:
+        return None
 
-    row: Row
-    place: str
-    details: list = field(default_factory=list)
 
-    @property
-    def moment(self):
-        """Seconds since 1970; None for a time that does not exist."""
-        try:
-            return calendar.timegm(time.strptime(self.row.time[:19], "%Y-%m-%dT%H:%M:%S"))
-        except ValueError:
-            return None
-
-    def __str__(self):
-        row = self.row
-        return (f"lane {row.lane} record {row.record} run {row.run}: {kind_of(row)} of session {row.session}, user {row.user}, "
-                f"{row.state} at {row.time} ({self.place})")
+def told_of(row, place):
+    return (f"lane {row.lane} record {row.record} run {row.run}: {kind_of(row)} of session {row.session}, user {row.user}, "
+            f"{row.state} at {row.time} ({place})")
 
 
 class Compared:
-    """The records of a home server in a ledger, and what of them is in detail files."""
+    """The records of a home server in a ledger, and what of them is in detail files: in a database on the disk, which nobody else sees."""
 
-    def __init__(self, within, clocks):
-        self.within, self.clocks, self.of, self.alone, self.unmarked = within, clocks, {}, [], 0
+    def __init__(self, database, within, clocks):
+        self.database, self.within, self.clocks, self.unmarked = database, within, clocks, 0
 
     def keep(self, row, place):
-        self.of.setdefault((int(row.lane), int(row.record)), []).append(Kept(row, place))
+        """Takes a record of the ledger in."""
+        self.database.execute(KEEP, (row.lane, row.record, row.session, row.status, moment_of(row), told_of(row, place)))
 
     def nearest(self, mark, detail):
         """The record of this lane and number, session and status that was answered soonest after. Each run begins its numbers anew."""
-        fit = [it for it in self.of.get(mark, []) if it.row.session == detail.session and detail.status in (None, it.row.status)]
-        seen = detail.moment
-        if seen is None:
-            return fit[0] if fit else None
-        fit = [it for it in fit if it.moment is not None and -self.clocks <= it.moment - seen <= self.within]
-        return min(fit, key=lambda it: abs(it.moment - seen), default=None)
+        words = {"lane": str(mark[0]), "record": str(mark[1]), "session": detail.session, "status": detail.status,
+                 "seen": detail.moment, "clocks": self.clocks, "within": self.within}
+        return self.database.execute(NEAREST, words).fetchone()
 
     def compare(self, detail):
         """Looks for a record of a detail file in the ledger."""
@@ -76,39 +89,63 @@ class Compared:
             return
         kept = self.nearest(mark, detail)
         if kept:
-            kept.details.append(detail.place)
+            self.database.execute("INSERT INTO seen (kept, place) VALUES (?, ?)", (*kept, detail.place))
         else:
-            self.alone.append(f"lane {mark[0]} record {mark[1]}: session {detail.session} ({detail.place})")
+            told = f"lane {mark[0]} record {mark[1]}: session {detail.session} ({detail.place})"
+            self.database.execute("INSERT INTO alone (told) VALUES (?)", (told,))
 
     def lines(self):
         """What is not in both once, and how much there is of each."""
-        both, twice, alone = 0, 0, 0
-        for kept in (it for several in self.of.values() for it in several):
-            both += len(kept.details) == 1
-            if not kept.details:
-                alone += 1
-                yield f"in the ledger alone: {kept}"
-            elif len(kept.details) > 1:
-                twice += 1
-                yield f"twice in the detail files: {kept}: {', '.join(kept.details)}"
-        for told in self.alone:
+        counts = {"both": 0, "twice": 0, "ledger": 0, "details": 0}
+        found = self.database.execute(PLACES)
+        for (_, told), rows in itertools.groupby(found, lambda it: it[:2]):
+            count, places = counted(place for _, _, place in rows if place is not None)
+            if count == 0:
+                counts["ledger"] += 1
+                yield f"in the ledger alone: {told}"
+            elif count == 1:
+                counts["both"] += 1
+            else:
+                counts["twice"] += 1
+                yield f"twice in the detail files: {told}: {', '.join(places)}"
+        for (told,) in self.database.execute("SELECT told FROM alone ORDER BY id"):
+            counts["details"] += 1
             yield f"in the detail files alone: {told}"
-        yield (f"in both {both}, twice {twice}, in the ledger alone {alone}, in the detail files alone {len(self.alone)}, "
-               f"without a mark of the proxy {self.unmarked}")
-        self.differs = bool(twice or alone or self.alone)
+        yield (f"in both {counts['both']}, twice {counts['twice']}, in the ledger alone {counts['ledger']}, "
+               f"in the detail files alone {counts['details']}, without a mark of the proxy {self.unmarked}")
+        self.differs = counts["twice"] + counts["ledger"] + counts["details"] > 0
+
+
+def counted(places):
+    """How many places there are, and the first of them; of many more, how many they are."""
+    first = list(itertools.islice(places, MOST_PLACES))
+    more = sum(1 for _ in places)
+    return len(first) + more, [*first, f"{more} more"] if more else first
+
+
+@contextlib.contextmanager
+def compared_by(within, clocks):
+    """A comparison, whose database is gone behind that."""
+    try:
+        with contextlib.closing(sqlite3.connect("", isolation_level=None)) as database:
+            database.executescript(SCHEMA)
+            yield Compared(database, within, clocks)
+    except sqlite3.Error as error:
+        raise Fault(f"the database of the comparison: {error}") from None
 
 
 def reconcile(asked, choice):
     """The lines of a comparison, and the verdict behind them."""
-    compared, notes = Compared(asked.within, asked.clocks), []
-    with audit_of(asked.program, asked.config, sources_of(asked.ledger or [asked.default_ledger])) as audit:
-        for row in audit.rows(choice):
-            if choice.is_within(row):
-                compared.keep(row, audit.place(row))
-        verdict = audit.verdict()
-    for source in sources_of(asked.paths):
-        for detail in details(source, notes.append):
-            compared.compare(detail)
-    yield from map(visible, [*notes, *compared.lines()])
-    verdict.other = DIFFERS if compared.differs and not verdict.fault else None
+    with compared_by(asked.within, asked.clocks) as compared:
+        with audit_of(asked.program, asked.config, sources_of(asked.ledger or [asked.default_ledger])) as audit:
+            for row in audit.rows(choice):
+                if choice.is_within(row):
+                    compared.keep(row, audit.place(row))
+            verdict = audit.verdict()
+        notes = []
+        for source in sources_of(asked.paths):
+            for detail in details(source, notes.append):
+                compared.compare(detail)
+        yield from map(visible, itertools.chain(notes, compared.lines()))
+        verdict.other = DIFFERS if compared.differs and not verdict.fault else None
     yield verdict

@@ -1,5 +1,7 @@
 """Writes a script for `rad_proxy replay`, which has what came to the proxy and nothing else."""
 import os
+import stat
+import tempfile
 
 from .datagrams import address
 from .faults import Fault, shown_path, told_by
@@ -45,10 +47,17 @@ def script(words):
 
 
 def write(path, text):
-    """Writes a file that only its owner may read."""
+    """Writes a new file that only its owner may read, which takes the place of a regular file."""
     try:
-        number = os.open(path, os.O_WRONLY | os.O_CREAT | os.O_TRUNC | os.O_NOFOLLOW, 0o600)
-        with open(number, "w", encoding="utf-8") as file:
-            file.write(text)
+        if os.path.lexists(path) and not stat.S_ISREG(os.lstat(path).st_mode):
+            raise Fault(f"{shown_path(path)}: no regular file")
+        number, new = tempfile.mkstemp(prefix=f"{os.path.basename(path)}.", dir=os.path.dirname(path) or ".")
+        try:
+            with open(number, "w", encoding="utf-8") as file:
+                file.write(text)
+            os.replace(new, path)
+        except BaseException:
+            os.unlink(new)
+            raise
     except OSError as error:
         raise Fault(f"{shown_path(path)}: {told_by(error)}") from None
