@@ -12,6 +12,7 @@ import gzip
 import importlib.machinery
 import importlib.util
 import io
+import itertools
 import json
 import os
 import pathlib
@@ -848,10 +849,14 @@ def what_is_handed_out_is_its_owners_alone(program, folder):
     hope("one that is there", [it.stat().st_mode & 0o777 for it in (there, *there.iterdir())], [0o755, 0o600])
 
 
-def at_a_terminal(*words):
+# An environment in which Python takes names and texts for ASCII.
+OF_ASCII = {"LC_ALL": "C", "PYTHONUTF8": "0", "PYTHONCOERCECLOCALE": "0"}
+
+
+def at_a_terminal(variables, *words):
     """What a tool prints on a terminal, with both outputs there."""
     own, other = pty.openpty()
-    ran = subprocess.Popen([sys.executable, *map(str, words)], stdin=subprocess.DEVNULL, stdout=other, stderr=other)
+    ran = subprocess.Popen([sys.executable, *map(str, words)], stdin=subprocess.DEVNULL, stdout=other, stderr=other, env=os.environ | variables)
     os.close(other)
     octets = b""
     with contextlib.suppress(OSError):
@@ -876,9 +881,10 @@ def nothing_turns_a_terminal(program, folder):
         "rad_convert": [["radsecproxy", convert], ["radsecproxy", odd], [odd]],
     }
     for name, several in calls.items():
-        for words in several:
-            out = at_a_terminal(TOOLS / name, *words).replace("\x1b[K", "").replace("\r", "")
-            hope(f"{name} {words}: {out}", (bool(out), [it for it in out if not it.isprintable() and it not in "\n\t"]), (True, []))
+        for words, variables in itertools.product(several, ({}, OF_ASCII)):
+            out = at_a_terminal(variables, TOOLS / name, *words).replace("\x1b[K", "").replace("\r", "")
+            found = bool(out), "Traceback" in out, [it for it in out if not it.isprintable() and it not in "\n\t"]
+            hope(f"{name} {words}: {out}", found, (True, False, []))
     out, _ = stage.told(WHOLE, "csv", stage.config, ledger.path, stdout=subprocess.PIPE)
     hope("a file", "\u202eabc\u2066" in out, True)
 

@@ -17,9 +17,14 @@ def shown(octets):
     return "".join(chr(octet) if 0x20 < octet < 0x7F and octet not in b'%"=' else f"%{octet:02X}" for octet in octets)
 
 
+def escaped(one):
+    """A character as `%` and two digits for each of its octets."""
+    return "".join(f"%{octet:02X}" for octet in one.encode("utf-8", "surrogateescape"))
+
+
 def printable(text):
-    """A text of which each control character, and each octet that is not UTF-8, is printed as `%` and two digits."""
-    return "".join(one if one.isprintable() else "".join(f"%{octet:02X}" for octet in os.fsencode(one)) for one in text)
+    """A text of which each control character, and each octet that is not UTF-8, is escaped."""
+    return text if text.isprintable() else "".join(one if one.isprintable() else escaped(one) for one in text)
 
 
 def shown_path(path):
