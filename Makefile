@@ -160,11 +160,13 @@ DESTDIR ?=
 FOLDERS = -e 's,@sbindir@,$(SBINDIR),g' -e 's,@libexecdir@,$(LIBEXECDIR),g' -e 's,@sysconfdir@,$(SYSCONFDIR),g' \
 	-e 's,@rundir@,$(RUNDIR),g' -e 's,@statedir@,$(STATEDIR),g' -e 's,@version@,$(VERSION),g'
 ONE = -e 's,@of@,,' -e 's,@config@,rad_proxy,g' -e 's,@runtime@,rad_proxy,'
-UNITS = rad_proxy.service rad_proxy@.service rad_proxy-metrics.socket rad_proxy-metrics@.service
+UNITS = rad_proxy.service rad_proxy@.service rad_proxy-metrics.socket rad_proxy-metrics.service
 MANY = -e 's,@of@, %i,' -e 's,@config@,%i,g' -e 's,@runtime@,rad_proxy-%i,'
 
-# The tools, which are Python programs with modules beside them.
+# The tools, which are Python programs with modules beside them; and the modules of rad_proxyctl, which root runs: they are installed
+# beside `serve`, and nothing else is there.
 TOOLS = rad_convert rad_ledger rad_resend rad_trial
+CONTROL = version.py trial/__init__.py trial/faults.py $(patsubst tools/%,%,$(wildcard tools/controlling/*.py))
 
 .PHONY: install install-proxy install-tools uninstall manual deb service
 
@@ -181,10 +183,13 @@ install-proxy:
 	install -d $(DESTDIR)$(MANDIR)/man8 $(DESTDIR)$(MANDIR)/man5 $(DESTDIR)$(MANDIR)/man1 $(DESTDIR)$(DOCDIR)/docs $(DESTDIR)$(SYSCONFDIR)/rad_proxy
 	install -m 755 $(PROGRAM) $(DESTDIR)$(SBINDIR)/rad_proxy
 	install -m 755 $(AUDITOR) $(DESTDIR)$(BINDIR)/rad_audit
-	sed $(FOLDERS) packaging/rad_proxyctl.in > $(DESTDIR)$(SBINDIR)/rad_proxyctl
 	sed $(FOLDERS) packaging/serve.in > $(DESTDIR)$(LIBEXECDIR)/rad_proxy/serve
-	chmod 755 $(DESTDIR)$(SBINDIR)/rad_proxyctl $(DESTDIR)$(LIBEXECDIR)/rad_proxy/serve
-	install -m 644 packaging/probe.py $(DESTDIR)$(LIBEXECDIR)/rad_proxy
+	chmod 755 $(DESTDIR)$(LIBEXECDIR)/rad_proxy/serve
+	for file in $(CONTROL); do install -D -m 644 tools/$$file $(DESTDIR)$(LIBEXECDIR)/rad_proxy/$$file || exit 1; done
+	sed $(FOLDERS) packaging/places.py.in > $(DESTDIR)$(LIBEXECDIR)/rad_proxy/controlling/places.py
+	chmod 644 $(DESTDIR)$(LIBEXECDIR)/rad_proxy/controlling/places.py
+	install -m 755 tools/rad_proxyctl $(DESTDIR)$(LIBEXECDIR)/rad_proxy
+	ln -sfr $(DESTDIR)$(LIBEXECDIR)/rad_proxy/rad_proxyctl $(DESTDIR)$(SBINDIR)/rad_proxyctl
 	install -d $(DESTDIR)$(COMPLETIONSDIR)
 	sed $(FOLDERS) packaging/completion.bash.in > $(DESTDIR)$(COMPLETIONSDIR)/rad_proxyctl
 	chmod 644 $(DESTDIR)$(COMPLETIONSDIR)/rad_proxyctl
@@ -193,7 +198,7 @@ install-proxy:
 	sed $(FOLDERS) $(ONE) packaging/rad_proxy.service.in > $(DESTDIR)$(UNITDIR)/rad_proxy.service
 	sed $(FOLDERS) $(MANY) packaging/rad_proxy.service.in > $(DESTDIR)$(UNITDIR)/rad_proxy@.service
 	sed $(FOLDERS) packaging/rad_proxy-metrics.socket.in > $(DESTDIR)$(UNITDIR)/rad_proxy-metrics.socket
-	sed $(FOLDERS) packaging/rad_proxy-metrics@.service.in > $(DESTDIR)$(UNITDIR)/rad_proxy-metrics@.service
+	sed $(FOLDERS) packaging/rad_proxy-metrics.service.in > $(DESTDIR)$(UNITDIR)/rad_proxy-metrics.service
 	cd $(DESTDIR)$(UNITDIR) && chmod 644 $(UNITS)
 	install -m 644 packaging/sysusers.conf $(DESTDIR)$(SYSUSERSDIR)/rad_proxy.conf
 	install -m 644 man/man8/rad_proxy.8 man/man8/rad_proxyctl.8 $(DESTDIR)$(MANDIR)/man8
@@ -206,7 +211,7 @@ install-proxy:
 # Installs the tools, their modules, and their manual.
 install-tools:
 	install -d $(DESTDIR)$(BINDIR) $(DESTDIR)$(TOOLSDIR) $(DESTDIR)$(MANDIR)/man1
-	for file in tools/*.py tools/*/*.py; do install -D -m 644 $$file $(DESTDIR)$(TOOLSDIR)/$${file#tools/} || exit 1; done
+	for file in $(filter-out tools/controlling/%,$(wildcard tools/*.py tools/*/*.py)); do install -D -m 644 $$file $(DESTDIR)$(TOOLSDIR)/$${file#tools/} || exit 1; done
 	cd tools && install -m 755 $(TOOLS) $(abspath $(DESTDIR)$(TOOLSDIR))
 	cd man/man1 && install -m 644 $(TOOLS:=.1) $(abspath $(DESTDIR)$(MANDIR)/man1)
 	for tool in $(TOOLS); do ln -sfr $(DESTDIR)$(TOOLSDIR)/$$tool $(DESTDIR)$(BINDIR)/$$tool || exit 1; done
@@ -226,7 +231,7 @@ uninstall:
 manual:
 	mandoc -T lint -W warning man/man8/rad_proxy.8 man/man8/rad_proxyctl.8 man/man5/rad_proxy.toml.5 man/man1/rad_audit.1 \
 		$(TOOLS:%=man/man1/%.1)
-	shellcheck packaging/serve.in packaging/rad_proxyctl.in packaging/completion.bash.in packaging/deb packaging/deb-tools packaging/debian/postinst \
+	shellcheck packaging/serve.in packaging/completion.bash.in packaging/deb packaging/deb-tools packaging/debian/postinst \
 		packaging/debian/prerm packaging/debian/postrm tests/packaging/*
 
 # A Debian package of the programs that `make build` left, and one of the tools, in out/.

@@ -1,58 +1,35 @@
-"""Sends a proxy a Status-Server (RFC 5997) and tells how long it took to answer: the part of `rad_proxyctl probe` that talks.
+"""Sends a proxy a Status-Server (RFC 5997) and tells how long it took to answer.
 
-usage: python3 probe.py CONFIG ADDRESS:PORT|"" SECONDS
-
-The secret is that of the [[client]] with the address that this machine sends from. Without an address it asks `listen` of CONFIG.
+The secret is that of the [[client]] with the address that this machine sends from. Without an address it asks `listen` of the
+configuration.
 """
 import hashlib
 import hmac
 import os
 import re
 import socket
-import sys
 import time
 
-ANSWERED, UNANSWERED, MISCONFIGURED, FAILED = 0, 1, 2, 4
+from trial.faults import Fault
+
+from . import bounds
+from .configuration import tables_of
+from .output import answer
+
+UNANSWERED = 1
 STATUS_SERVER, ACCOUNTING_RESPONSE, MESSAGE_AUTHENTICATOR = 12, 5, 80
 SHORTEST, LONGEST = 20, 4096
-# The most octets of a configuration, as the proxy reads it, and how many seconds after a sending the next one is due.
-MOST_OCTETS, APART = 1_048_576, 1.0
+# How many datagrams are sent soon after each other, how many seconds apart, and how many seconds apart those after them are.
+FIRST, SOON, APART = 3, 0.2, 1.0
 PLACE = re.compile(r"((?:\d{1,3}\.){3}\d{1,3}):(\d{1,5})", re.ASCII)
-
-
-class Fault(Exception):
-    """What keeps this from an answer, with the status that it ends with."""
-
-    def __init__(self, text, status=FAILED):
-        super().__init__(text)
-        self.status = status
 
 
 def place_of(text, name):
     """The address and port that a text names."""
     found = isinstance(text, str) and PLACE.fullmatch(text)
     if not found or any(int(part) > 255 for part in found[1].split(".")) or not 1 <= int(found[2]) <= 65_535:
-        raise Fault(f"{name} is no ADDRESS:PORT", MISCONFIGURED)
+        raise Fault(f"{name} is no ADDRESS:PORT", bounds.MISCONFIGURED)
     return found[1], int(found[2])
-
-
-def configuration(path):
-    """The tables of a configuration."""
-    try:
-        import tomllib
-    except ImportError:
-        raise Fault("the probe wants Python 3.11 or later, which reads TOML") from None
-    try:
-        with open(path, "rb") as file:
-            octets = file.read(MOST_OCTETS + 1)
-    except OSError as error:
-        raise Fault(f"{path}: {error.strerror}", MISCONFIGURED) from None
-    try:
-        if len(octets) > MOST_OCTETS:
-            raise ValueError
-        return tomllib.loads(octets.decode())
-    except (ValueError, RecursionError):
-        raise Fault(f"{path} is no configuration", MISCONFIGURED) from None
 
 
 def secret_of(table, path, address):
@@ -62,9 +39,9 @@ def secret_of(table, path, address):
         if isinstance(client, dict) and client.get("address") == address:
             secret = client.get("secret")
             if not isinstance(secret, str) or not 1 <= len(secret.encode()) <= 128:
-                raise Fault(f"{path}: the [[client]] {address} has no secret of 1 to 128 octets", MISCONFIGURED)
+                raise Fault(f"{path}: the [[client]] {address} has no secret of 1 to 128 octets", bounds.MISCONFIGURED)
             return secret.encode()
-    raise Fault(f"{path} has no [[client]] {address}, the address that this machine sends from", MISCONFIGURED)
+    raise Fault(f"{path} has no [[client]] {address}, the address that this machine sends from", bounds.MISCONFIGURED)
 
 
 def status_server(identifier, authenticator, secret):
@@ -82,14 +59,21 @@ def is_answer(octets, asked, secret):
     return hmac.compare_digest(made, octets[4:20])
 
 
+def due_at(begun, count):
+    """When the datagram behind so many is sent."""
+    return begun + SOON * min(count, FIRST - 1) + APART * max(count - FIRST + 1, 0)
+
+
 def await_answer(made, asked, secret, seconds):
-    """Sends a packet, once a second, until it is answered: how many seconds that took. Fails when the time is over."""
+    """Sends a packet, thrice and then once a second, until it is answered: how many seconds that took. Fails when the time is over."""
     begun = time.monotonic()
-    last, due, others = begun + seconds, begun, 0
+    last, sent, others = begun + seconds, 0, 0
     while (now := time.monotonic()) < last:
+        due = due_at(begun, sent)
         if now >= due:
             made.send(asked)
-            due += APART
+            sent += 1
+            continue
         made.settimeout(max(min(due, last) - now, 0.001))
         try:
             octets = made.recv(LONGEST + 1)
@@ -104,7 +88,7 @@ def await_answer(made, asked, secret, seconds):
 
 def probe(path, server, seconds):
     """Asks, and prints how long it took."""
-    table = configuration(path)
+    table = tables_of(path)
     address, port = place_of(server, server) if server else place_of(table.get("listen"), f"{path}: listen")
     if not server and address == "0.0.0.0":
         address = "127.0.0.1"
@@ -112,7 +96,7 @@ def probe(path, server, seconds):
         try:
             made.connect((address, port))
         except OSError as error:
-            raise Fault(f"cannot send to {address}:{port}: {error.strerror}") from None
+            raise Fault(f"cannot send to {address}:{port}: {error.strerror}", bounds.FAILED) from None
         secret = secret_of(table, path, made.getsockname()[0])
         authenticator = os.urandom(17)
         asked = status_server(authenticator[0], authenticator[1:], secret)
@@ -122,23 +106,4 @@ def probe(path, server, seconds):
             raise Fault(f"no answer from {address}:{port} {fault}", fault.status) from None
         except OSError as error:
             raise Fault(f"no answer from {address}:{port}: {error.strerror}", UNANSWERED) from None
-    print(f"answer from {address}:{port} in {1000 * took:.1f} ms")
-
-
-def main(path, server, seconds):
-    try:
-        probe(path, server, float(seconds))
-        sys.stdout.flush()
-        return ANSWERED
-    except Fault as fault:
-        print(f"rad_proxyctl: {fault}", file=sys.stderr)
-        return fault.status
-    except OSError as error:
-        print(f"rad_proxyctl: {error.strerror}", file=sys.stderr)
-        os.dup2(os.open(os.devnull, os.O_WRONLY), 1)
-        return FAILED
-
-
-if __name__ == "__main__":
-    sys.stderr.reconfigure(errors="backslashreplace")
-    sys.exit(main(*sys.argv[1:]))
+    answer(f"answer from {address}:{port} in {1000 * took:.1f} ms\n")

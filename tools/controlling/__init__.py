@@ -1,0 +1,1 @@
+"""The parts of rad_proxyctl(8)."""

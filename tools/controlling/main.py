@@ -1,0 +1,95 @@
+"""What each command does, and how it ends: an error is one line and a status, and never a traceback."""
+import os
+import signal
+import sys
+
+from trial.faults import Fault, printable
+
+from . import bounds
+from .output import answer, tell
+from .processes import ENDS, close_others, open_missing
+from .words import call_of
+
+# Those of the signals that end a program which were ignored where this one was started.
+IGNORED = [number for number in ENDS if signal.getsignal(number) == signal.SIG_IGN]
+
+
+def ask(call):
+    from .owner import ask as ask_owner
+
+    lines, _ = ask_owner(call.folder, call.word)
+    answer("\n".join(lines) + "\n")
+
+
+def metrics(call):
+    from .metrics import tell_metrics
+
+    tell_metrics(call.folder, call.file)
+
+
+def top(call):
+    from .top import top as draw
+
+    draw(call.folder)
+
+
+def http(call):
+    from .http import answer_http
+
+    answer_http(call.folder)
+
+
+def probe(call):
+    from .probe import probe as send
+
+    send(call.config, call.server, float(call.seconds or bounds.PROBE_SECONDS))
+
+
+def restart(call):
+    from .restart import Restart
+
+    return Restart(call, IGNORED).do()
+
+
+def check(call):
+    from .check import check as look
+
+    return look(call.config, call.is_strict)
+
+
+def trace(call):
+    from .trace import trace as follow
+
+    return follow(call, IGNORED)
+
+
+DONE = {"state": ask, "drain": ask, "metrics": metrics, "top": top, "http": http, "probe": probe, "restart": restart, "check": check,
+        "trace": trace}
+
+
+def begin():
+    """Leaves this with the descriptors 0 to 2, which are open, and with signals that do what they do to a program by default."""
+    open_missing()
+    close_others(4 if os.environ.get("LISTEN_PID") == str(os.getpid()) else 3)
+    for number in (signal.SIGPIPE, signal.SIGINT):
+        if number not in IGNORED:
+            signal.signal(number, signal.SIG_DFL)
+
+
+def end(words):
+    """Does what the words of a call ask for, and ends."""
+    begin()
+    call = None
+    try:
+        call = call_of(words)
+        status = DONE[call.word](call) or 0
+    except Fault as fault:
+        tell(f"rad_proxyctl: {printable(str(fault))}")
+        status = fault.status
+    except MemoryError:
+        tell("rad_proxyctl: no memory")
+        status = bounds.FAILED
+    except OSError as error:
+        tell(f"rad_proxyctl: {printable(error.strerror or type(error).__name__)}")
+        status = bounds.FAILED
+    sys.exit(status)

@@ -1,0 +1,238 @@
+"""`restart`: drains the proxy, and restarts its service once all that was accepted is answered."""
+import fcntl
+import hashlib
+import os
+import signal
+import stat
+import time
+
+from trial.faults import Fault, printable
+
+from . import bounds, places
+from .check import VARIABLES, checker
+from .holding import Holder
+from .lanes import lanes_of
+from .output import say, tell
+from .owner import Folder, ask, run
+from .processes import found, given_environment
+from .processes import run as run_command
+from .stops import Stopped, Stops, end_by
+
+
+class Refused(Fault):
+    """Nothing was drained, and nothing is restarted."""
+
+    def __init__(self, lanes, text):
+        super().__init__(f"not restarted, and not drained: {text}", bounds.REFUSED)
+        self.lanes = lanes
+
+
+def lock_file(folder, is_root):
+    """The lock of those who restart: a file of root's own, which nobody else can open, or one of the caller's beside the fifos."""
+    if not is_root:
+        return f"{folder}/restart.lock"
+    name = hashlib.sha256(os.fsencode(os.path.realpath(folder))).hexdigest()[:16]
+    return f"{places.RUN}/rad_proxyctl-{name}.lock"
+
+
+def take_lock(folder):
+    """Takes the lock, which the end of this process frees."""
+    path = lock_file(folder, os.geteuid() == 0)
+    try:
+        descriptor = os.open(path, os.O_RDWR | os.O_CREAT | os.O_NOFOLLOW | os.O_NONBLOCK | os.O_CLOEXEC, 0o600)
+        it = os.fstat(descriptor)
+        if not stat.S_ISREG(it.st_mode) or it.st_uid != os.geteuid():
+            raise Fault(f"{path} is no lock of this user")
+        os.fchmod(descriptor, 0o600)
+        fcntl.flock(descriptor, fcntl.LOCK_EX | fcntl.LOCK_NB)
+    except BlockingIOError:
+        raise Fault("another one restarts it") from None
+    except OSError as error:
+        raise Fault(f"cannot lock {path}: {error.strerror}") from None
+    return descriptor
+
+
+def slow_lanes(before, now, seconds, wait):
+    """The lanes that have more queued and outstanding than they answer in the seconds to wait, by what they answered in these seconds."""
+    answered = {lane.number: lane.answered for lane in before}
+    return [lane for lane in now if lane.is_busy() and
+            (lane.queued + lane.outstanding) * seconds > (lane.answered - answered.get(lane.number, 0)) * wait]
+
+
+class Restart:
+    """A restart of the service of a folder."""
+
+    def __init__(self, call, ignored):
+        self.call, self.folder, self.ignored = call, call.folder, ignored
+        self.way = os.environ.get("RAD_PROXY_RESTART")
+        self.stops = Stops(ignored)
+
+    def find_way(self):
+        """Minds that there is a way to restart what serves in the folder, before anything is drained."""
+        unit = self.call.unit
+        if self.way:
+            return
+        if not unit:
+            raise Fault(f"what serves in {self.folder} is no unit that is known here: set RAD_PROXY_RESTART to the command that restarts it")
+        if os.getuid() != 0:
+            raise Fault(f"root alone restarts {unit}")
+        if not is_active(unit):
+            raise Fault(f"{unit} is no active unit of systemd: set RAD_PROXY_RESTART to the command that restarts what serves in "
+                        f"{self.folder}")
+
+    def check_configuration(self):
+        """Has the folder's owner check the configuration, who has to read it at the start."""
+        config = self.call.config
+        status, lines = run(self.folder, [checker(), "check", config], VARIABLES)
+        say("\n".join(lines))
+        if status != 0:
+            raise Fault(f"not restarted, and not drained: rad_proxy check {config} ends with {status}", bounds.MISCONFIGURED)
+
+    def look(self):
+        """The lanes, as `state` tells them."""
+        return lanes_of(ask(self.folder, "state")[0])
+
+    def look_or_none(self):
+        """The lanes; without an answer None, untold."""
+        try:
+            return self.look()
+        except (Fault, OSError):
+            return None
+
+    def look_for_down(self):
+        """The lanes. Refuses where a home server is down."""
+        lanes = self.look()
+        down = [lane for lane in lanes if lane.watch == "down"]
+        if down:
+            raise Refused(down, "a home server is down")
+        return lanes
+
+    def look_ahead(self):
+        """Looks twice, a second apart, and refuses where a restart would leave something. Where anything is queued or outstanding in the
+        second look, the rate counts: one second's suffices, and nothing is refused before RATE_SECONDS have been seen."""
+        first = last = self.look_for_down()
+        begun = then = time.monotonic()
+        while True:
+            time.sleep(1)
+            lanes, now = self.look_for_down(), time.monotonic()
+            if not slow_lanes(last, lanes, now - then, self.call.wait):
+                return
+            slow = slow_lanes(first, lanes, now - begun, self.call.wait)
+            if now - begun >= bounds.RATE_SECONDS:
+                break
+            last, then = lanes, now
+        if slow:
+            raise Refused(slow, f"more is queued and outstanding than is answered in {self.call.wait} seconds, "
+                          f"at the rate of the last {bounds.RATE_SECONDS}")
+
+    def drain(self, out):
+        """Drains the proxy. Where it does not obey, the file `out` is removed, unless the lanes are drained all the same or may be yet."""
+        self.stops.wait()
+        self.stops.ignore(signal.SIGHUP, signal.SIGPIPE)
+        try:
+            ask(self.folder, "drain")
+            out.keep()
+            return
+        except (Fault, OSError) as fault:
+            tell(f"rad_proxyctl: {printable(str(fault))}")
+            may_drain = "may obey" in str(fault)
+        lanes = self.look_or_none()
+        if may_drain if lanes is None else any(lane.mode != "open" for lane in lanes):
+            out.keep()
+        raise Fault("not restarted")
+
+    def go_out(self):
+        """Makes the file `out`, by which a check of this machine knows that the proxy is about to be drained, and drains the proxy."""
+        with Folder(self.folder) as folder:
+            self.stops.wait()
+            try:
+                out = Holder(folder, "out", self.call.out)
+            except Fault as fault:
+                tell(f"rad_proxyctl: {printable(str(fault))}")
+                raise Fault("not restarted, and not drained") from None
+            try:
+                self.stops.go_on()
+                if self.call.out:
+                    time.sleep(self.call.out)
+                    if not self.call.is_forced:
+                        self.look_for_down()
+                self.drain(out)
+            finally:
+                self.stops.wait()
+                out.end()
+
+    def await_lanes(self):
+        """Waits until each lane is done, and says once a second what is left: the lines of that, when the time is over. Where no answer
+        comes, all is left that was there before."""
+        until, left = time.monotonic() + self.call.wait, ["left: unknown, since the proxy does not answer"]
+        while True:
+            lanes = None
+            try:
+                lanes = self.look()
+            except (Fault, OSError) as fault:
+                tell(f"rad_proxyctl: {printable(str(fault))}")
+            if lanes is not None:
+                if any(lane.mode == "open" for lane in lanes):
+                    raise Fault("another one has restarted it: nothing more was done")
+                left = [f"left: {lane.home} queued {lane.queued} outstanding {lane.outstanding}" for lane in lanes if lane.mode != "done"]
+            if not left or time.monotonic() >= until:
+                return left
+            say("\n".join(left))
+            time.sleep(1)
+
+    def replace(self):
+        """Restarts what serves in the folder. What is started has the signals as this program was given them."""
+        words = ["sh", "-c", self.way] if self.way else ["systemctl", "restart", self.call.unit]
+        if run_command(words, given_environment(), self.ignored) != 0:
+            raise Fault("the command that restarts it failed: look at the service, which is drained or has ended")
+
+    def await_new(self):
+        """Waits until a proxy answers whose lanes are not drained."""
+        until = time.monotonic() + bounds.START_SECONDS
+        while (lanes := self.look_or_none()) is None or any(lane.mode != "open" for lane in lanes):
+            if time.monotonic() >= until:
+                raise Fault(f"no proxy that accepts requests answers in {bounds.START_SECONDS} seconds after the restart")
+            time.sleep(0.2)
+
+    def go_through(self):
+        """What comes behind the drain."""
+        try:
+            self.stops.go_on()
+            left = self.await_lanes()
+            self.stops.wait()
+            self.replace()
+        except Stopped:
+            raise Fault("stopped: the proxy is drained and accepts nothing until it is restarted") from None
+        try:
+            self.stops.go_on()
+            self.await_new()
+        except Stopped:
+            raise Fault("stopped: the service was restarted, and nothing says that the new proxy accepts requests") from None
+        if left:
+            tell("\n".join(left))
+            raise Fault(f"restarted, though this was left after {self.call.wait} seconds", bounds.LEFT_OVER)
+        say("restarted")
+
+    def do(self):
+        """Restarts the service once what it accepted is answered. From the drain on it goes through with it, also without a terminal."""
+        try:
+            self.find_way()
+            self.check_configuration()
+            lock = take_lock(self.folder)
+            self.stops.catch()
+            if not self.call.is_forced:
+                self.look_ahead()
+            self.go_out()
+        except Refused as it:
+            tell("\n".join(lane.line for lane in it.lanes))
+            raise
+        except Stopped as it:
+            end_by(it.number)
+        self.go_through()
+        os.close(lock)
+
+
+def is_active(unit):
+    """Whether systemd has a unit as active."""
+    systemctl = found("systemctl", os.environ.get("PATH", ""))
+    return systemctl is not None and run_command([systemctl, "is-active", "--quiet", unit], given_environment(), ()) == 0

@@ -1,0 +1,184 @@
+"""The words of a call: the one place where they are told apart."""
+import os
+import re
+import sys
+from dataclasses import dataclass, field
+
+from version import VERSION
+
+from . import bounds, places
+from .output import answer, tell
+from .paths import absolute, configuration_of
+
+USAGE = """\
+usage: rad_proxyctl [-i NAME | -d DIR] state | drain | top | metrics [FILE] | http
+       rad_proxyctl [-i NAME] probe [-s ADDRESS:PORT] [-c CONFIG] [--timeout SECONDS]
+       rad_proxyctl [-i NAME | -d DIR] restart [-c CONFIG] [--wait SECONDS] [--out SECONDS] [--force]
+       rad_proxyctl [-i NAME] check [--strict] [FILE]
+       rad_proxyctl [-i NAME | -d DIR] trace [--user NAME | --session ID | --client ADDRESS] [--seconds SECONDS]
+       rad_proxyctl --help | --version
+"""
+HELP = """
+Asks a rad_proxy that runs as a service.
+
+  state           a line for each home server
+  drain           accept no new request from now on; only a restart undoes it
+  top             tables of home servers and clients, once a second
+  metrics [FILE]  the metrics, in the text format of Prometheus
+  http            answers one HTTP request on standard input with the metrics
+  probe           sends a Status-Server and prints the time to the answer; ends with 1 without one
+  restart         drains, waits until all is answered, and restarts the service
+  check [FILE]    prints each fault of a configuration, and what is doubtful in it
+  trace           prints the lines of the log about a user, a session or a client
+
+  -i NAME         the service rad_proxy@NAME, in place of rad_proxy
+  -d DIR          the service whose fifos are in DIR
+  -s ADDRESS:PORT the proxy that is probed, in place of `listen' of the configuration
+  -c CONFIG       the configuration, in place of {config}
+  --timeout S     how long an answer is waited for, in seconds; default {probe}
+  --wait S        how long a restart waits for the answers after the drain; default {drain}
+  --out S         how long the file `out' stands before the drain; default 0
+  --seconds S     how long it is traced; default {trace}
+  --force         restarts though a home server is down, or a queue too long
+  --strict        ends with {doubtful} where the check has a warning and no fault
+
+rad_proxyctl(8) has the rest.
+"""
+COMMANDS = ("state", "drain", "top", "metrics", "http", "probe", "restart", "check", "trace")
+# The options of each command that have a value, and those that have none. Some take their value behind `=` too.
+VALUES = {"": ("-i", "-d"), "probe": ("-s", "-c", "--timeout"), "restart": ("-c", "--wait", "--out"),
+          "trace": ("--user", "--session", "--client", "--seconds")}
+FLAGS = {"restart": ("--force",), "check": ("--strict",)}
+WHOLE = re.compile(r"0|[1-9][0-9]{0,4}", re.ASCII)
+SECONDS = re.compile(r"[0-9]{1,6}(\.[0-9]{1,3})?", re.ASCII)
+
+
+class Misused(Exception):
+    """The call is wrong."""
+
+
+@dataclass
+class Call:
+    """What is to be done, and with what."""
+
+    word: str = ""
+    folder: str = ""
+    unit: str = ""
+    config: str = ""
+    file: str = ""
+    server: str = ""
+    seconds: str = ""
+    wait: int = bounds.DRAIN_SECONDS
+    out: int = 0
+    is_forced: bool = False
+    is_strict: bool = False
+    is_named: bool = False
+    wanted: list = field(default_factory=list)
+
+    def __post_init__(self):
+        given = os.environ.get("RUNTIME_DIRECTORY")
+        self.folder = absolute(given or f"{places.RUN}/rad_proxy")
+        self.unit = "" if given else "rad_proxy"
+        self.config = configuration_of("")
+
+
+def whole(text):
+    """A whole number of at most five digits, without a zero before others."""
+    if not WHOLE.fullmatch(text):
+        raise Misused
+    return int(text)
+
+
+def take_value(call, option, value):
+    """Takes an option in that has a value."""
+    if not value:
+        raise Misused
+    if option == "-i":
+        call.folder, call.unit, call.config = f"{places.RUN}/rad_proxy-{value}", f"rad_proxy@{value}", configuration_of(value)
+    elif option == "-d":
+        call.folder, call.unit = absolute(value), ""
+    elif option == "-s":
+        call.server = value
+    elif option == "-c":
+        call.config = absolute(value)
+    elif option == "--timeout":
+        if not SECONDS.fullmatch(value) or not value.strip("0."):
+            raise Misused
+        call.seconds = value
+    elif option == "--wait":
+        call.wait = whole(value)
+    elif option == "--out":
+        call.out = whole(value)
+    elif option == "--seconds":
+        if whole(value) == 0:
+            raise Misused
+        call.seconds = value
+    else:
+        if "\n" in value:
+            raise Misused
+        call.wanted.append(f"{option[2:]} {value}\n")
+
+
+def take_flag(call, word):
+    """Takes a word in that stands for itself."""
+    if word == "--force":
+        call.is_forced = True
+    elif word == "--strict":
+        call.is_strict = True
+
+
+def take_other(call, word):
+    """Takes a word in that is no option of its command."""
+    if not call.word and word in COMMANDS:
+        call.word = word
+    elif call.word == "check" and word and not word.startswith("-") and not call.is_named:
+        call.is_named, call.config = True, absolute(word)
+    elif call.word == "metrics" and word and not call.file:
+        call.file = absolute(word)
+    elif call.word or word != "--":
+        raise Misused
+
+
+def read_words(call, words):
+    """Takes the words of the call in. First comes what is to be done, with -i or -d before it."""
+    rest = list(words)
+    while rest:
+        word = rest.pop(0)
+        values = VALUES.get(call.word, ())
+        name, sign, value = word.partition("=")
+        if word in ("--help", "--version"):
+            return word
+        if word in values:
+            if not rest:
+                raise Misused
+            take_value(call, word, rest.pop(0))
+        elif sign and name in values and name.startswith("--"):
+            take_value(call, name, value)
+        elif not call.word and word[:2] in values:
+            take_value(call, word[:2], word[2:])
+        elif word in FLAGS.get(call.word, ()):
+            take_flag(call, word)
+        else:
+            take_other(call, word)
+    if not call.word or call.word == "trace" and not call.wanted:
+        raise Misused
+    return None
+
+
+def help_text():
+    return USAGE + HELP.format(config=configuration_of(""), probe=bounds.PROBE_SECONDS, drain=bounds.DRAIN_SECONDS,
+                               trace=bounds.TRACE_SECONDS, doubtful=bounds.DOUBTFUL)
+
+
+def call_of(words):
+    """What a call asks for. Its help and its version are told here, and end it."""
+    call = Call()
+    try:
+        told = read_words(call, words)
+    except Misused:
+        tell(USAGE.rstrip("\n"))
+        sys.exit(bounds.PROBE_MISUSED if call.word == "probe" else bounds.MISUSED)
+    if told is not None:
+        answer(help_text() if told == "--help" else f"rad_proxyctl {VERSION}\n")
+        sys.exit(0)
+    return call
