@@ -9,7 +9,6 @@ The last two print `made`. They end when their input does, or after so many seco
 import fcntl
 import os
 import select
-import signal
 import stat
 import sys
 import time
@@ -21,7 +20,8 @@ from controlling import bounds  # noqa: E402
 # The word that the lines of an answer begin with.
 FIRST = {"state": b"lane ", "drain": b"drain: "}
 PART = 65_536
-LOOK_SECONDS = 0.2
+# How often it is looked whether the lock is free, and whether what is traced is still there.
+APART, LOOK_SECONDS = 0.005, 0.2
 
 
 class Ends(Exception):
@@ -70,18 +70,17 @@ def see_service():
         raise Ends(bounds.NO_SERVICE)
 
 
-def no_more(*_):
-    raise Ends(bounds.IS_BUSY)
-
-
 def take_lock():
     """Waits for the lock of those who ask, which the end of this process frees."""
-    descriptor = os.open("lock", os.O_RDONLY | os.O_CREAT | os.O_CLOEXEC | os.O_NONBLOCK, 0o600)
-    signal.signal(signal.SIGALRM, no_more)
-    signal.setitimer(signal.ITIMER_REAL, bounds.LOCK_SECONDS)
-    fcntl.flock(descriptor, fcntl.LOCK_EX)
-    signal.setitimer(signal.ITIMER_REAL, 0)
-    return descriptor
+    descriptor, until = os.open("lock", os.O_RDONLY | os.O_CREAT | os.O_CLOEXEC | os.O_NONBLOCK, 0o600), time.monotonic() + bounds.LOCK_SECONDS
+    while True:
+        try:
+            fcntl.flock(descriptor, fcntl.LOCK_EX | fcntl.LOCK_NB)
+            return descriptor
+        except BlockingIOError:
+            if time.monotonic() >= until:
+                raise Ends(bounds.IS_BUSY) from None
+            time.sleep(APART)
 
 
 def made_answer():

@@ -16,7 +16,7 @@ from trial.faults import Fault
 from . import bounds
 from .output import write_all
 from .processes import Process, bounded, given_environment
-from .requests import INCOMPLETE, LONGEST_HEAD, REQUEST_SECONDS, RESPONSE_SECONDS, Asked, first_line, refusal_of
+from .requests import INCOMPLETE, LONGEST_HEAD, REQUEST_SECONDS, RESPONSE_SECONDS, first_line, refusal_of, response_of
 
 PROGRAM = os.path.join(os.path.dirname(os.path.dirname(os.path.realpath(__file__))), "rad_proxyctl")
 # The first descriptor that systemd passes; how many connections there are at once, and how many octets of each the system keeps; how long
@@ -44,9 +44,10 @@ class Asking:
         self.octets += part
         return not part or len(self.octets) > 2 * bounds.MOST_OCTETS
 
-    def end(self):
+    def response(self):
+        """What is answered, once that was the end."""
         self.process.close_output()
-        return Asked(bytes(self.octets), self.process.wait())
+        return response_of(bytes(self.octets), self.process.wait())
 
 
 def ask(folder):
@@ -54,7 +55,7 @@ def ask(folder):
     asking = Asking(folder)
     while not asking.read():
         pass
-    return asking.end().response()
+    return asking.response()
 
 
 class Connection:
@@ -174,7 +175,7 @@ class Server:
         if not self.asking.read():
             return
         self.selector.unregister(self.asking)
-        octets, self.asking = self.asking.end().response(), None
+        octets, self.asking = self.asking.response(), None
         for one in [one for one in self.connections if one.is_waiting]:
             self.respond(one, octets)
 

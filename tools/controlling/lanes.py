@@ -1,5 +1,4 @@
 """The lines of `state`: lane LANE NAME WATCH MODE accepted A queued Q outstanding O answered R opening P."""
-from dataclasses import dataclass
 
 
 def whole(text):
@@ -7,18 +6,13 @@ def whole(text):
     return int(text) if text.isascii() and text.isdigit() else 0
 
 
-@dataclass
 class Lane:
-    line: str
-    number: str
-    home: str
-    watch: str
-    mode: str
-    accepted: int
-    queued: int
-    outstanding: int
-    answered: int
-    opening: int
+    """What a line says of a lane."""
+
+    def __init__(self, line):
+        words = line.split() + 15 * [""]
+        self.line, self.number, self.home, self.watch, self.mode = line, *words[1:5]
+        self.accepted, self.queued, self.outstanding, self.answered, self.opening = (whole(words[place]) for place in (6, 8, 10, 12, 14))
 
     def is_busy(self):
         return self.queued + self.outstanding > 0
@@ -26,8 +20,4 @@ class Lane:
 
 def lanes_of(lines):
     """The lanes, one for each line."""
-    found = []
-    for line in lines:
-        words = line.split() + 15 * [""]
-        found.append(Lane(line, *words[1:5], *(whole(words[place]) for place in (6, 8, 10, 12, 14))))
-    return found
+    return [Lane(line) for line in lines]

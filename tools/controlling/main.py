@@ -1,17 +1,13 @@
 """What each command does, and how it ends: an error is one line and a status, and never a traceback."""
 import os
-import signal
 import sys
 
 from trial.faults import Fault, printable
 
 from . import bounds
-from .output import answer, tell
-from .processes import ENDS, close_others, open_missing
+from .output import answer, end_by, tell
+from .processes import close_others, open_missing
 from .words import call_of
-
-# Those of the signals that end a program which were ignored where this one was started.
-IGNORED = [number for number in ENDS if signal.getsignal(number) == signal.SIG_IGN]
 
 
 def ask(call):
@@ -48,7 +44,7 @@ def probe(call):
 def restart(call):
     from .restart import Restart
 
-    return Restart(call, IGNORED).do()
+    return Restart(call).do()
 
 
 def check(call):
@@ -60,7 +56,7 @@ def check(call):
 def trace(call):
     from .trace import trace as follow
 
-    return follow(call, IGNORED)
+    return follow(call)
 
 
 DONE = {"state": ask, "drain": ask, "metrics": metrics, "top": top, "http": http, "probe": probe, "restart": restart, "check": check,
@@ -68,24 +64,22 @@ DONE = {"state": ask, "drain": ask, "metrics": metrics, "top": top, "http": http
 
 
 def begin():
-    """Leaves this with the descriptors 0 to 2, which are open, and with signals that do what they do to a program by default."""
+    """Leaves this with the descriptors 0 to 2, which are open, and with that one which systemd passes."""
     open_missing()
     close_others(4 if os.environ.get("LISTEN_PID") == str(os.getpid()) else 3)
-    for number in (signal.SIGPIPE, signal.SIGINT):
-        if number not in IGNORED:
-            signal.signal(number, signal.SIG_DFL)
 
 
 def end(words):
     """Does what the words of a call ask for, and ends."""
-    begin()
-    call = None
     try:
+        begin()
         call = call_of(words)
         status = DONE[call.word](call) or 0
     except Fault as fault:
         tell(f"rad_proxyctl: {printable(str(fault))}")
         status = fault.status
+    except KeyboardInterrupt:
+        end_by("SIGINT")
     except MemoryError:
         tell("rad_proxyctl: no memory")
         status = bounds.FAILED

@@ -1,8 +1,6 @@
 """The metrics, in the text format of Prometheus, and the file that has them."""
 import errno
 import os
-import random
-import signal
 import stat
 
 from trial.faults import Fault
@@ -11,7 +9,6 @@ from . import bounds
 from .lanes import lanes_of
 from .output import answer, write_all
 from .owner import NoService, ask
-from .processes import ENDS
 
 FAMILIES = (
     ("home_up", "gauge", "Whether the home server is marked up.", lambda lane: int(lane.watch == "up")),
@@ -68,16 +65,20 @@ class Held:
     """Has the signals that end a program wait until something is done as a whole."""
 
     def __enter__(self):
-        self.before = signal.pthread_sigmask(signal.SIG_BLOCK, ENDS)
+        import signal
+
+        self.mask = signal.pthread_sigmask
+        self.before = self.mask(signal.SIG_BLOCK, [signal.SIGHUP, signal.SIGINT, signal.SIGTERM, signal.SIGQUIT])
+        self.back = signal.SIG_SETMASK
 
     def __exit__(self, *_):
-        signal.pthread_sigmask(signal.SIG_SETMASK, self.before)
+        self.mask(self.back, self.before)
 
 
 def made_beside(file):
     """A new file beside this one, that nobody had before: its name and its descriptor."""
     for _ in range(100):
-        new = f"{file}.{''.join(random.choices('abcdefghijklmnopqrstuvwxyz0123456789', k=6))}"
+        new = f"{file}.{os.urandom(4).hex()}"
         try:
             return new, os.open(new, os.O_WRONLY | os.O_CREAT | os.O_EXCL | os.O_NOFOLLOW | os.O_CLOEXEC, 0o644)
         except FileExistsError:

@@ -1,12 +1,8 @@
 """Processes that are started: each has a session of its own, the descriptors 0 to 2 alone, and ends in some seconds."""
 import os
-import signal
 
 SYSTEM_PATH = "/usr/sbin:/usr/bin:/sbin:/bin"
 CANNOT_START = 126
-# The signals that Python ignores from its start on, and those that this program may ignore or catch.
-USUAL = (signal.SIGPIPE, signal.SIGXFSZ)
-ENDS = (signal.SIGHUP, signal.SIGINT, signal.SIGTERM)
 
 
 def given_environment():
@@ -53,15 +49,17 @@ def bounded(seconds, words):
 
 
 def give_signals_back(ignored=()):
-    """Has each signal do what it did when this program was started."""
-    for number in (*USUAL, *ENDS):
+    """Has each signal do what it did when this program was started: Python ignores two, and this program may catch others."""
+    import signal
+
+    for number in (signal.SIGPIPE, signal.SIGXFSZ, signal.SIGHUP, signal.SIGINT, signal.SIGTERM):
         signal.signal(number, signal.SIG_IGN if number in ignored else signal.SIG_DFL)
 
 
 class Process:
     """A process in a folder, with a pipe of what it prints; with another one that it reads, if it is asked for."""
 
-    def __init__(self, words, environment, folder=None, has_input=False, has_errors=True):
+    def __init__(self, words, environment, folder=None, has_input=False, has_errors=True, has_signals=True):
         self.status = None
         reading, writing = os.pipe()
         given, ours = os.pipe() if has_input else (os.open(os.devnull, os.O_RDONLY), None)
@@ -69,7 +67,7 @@ class Process:
         if self.pid == 0:
             try:
                 errors = writing if has_errors else os.open(os.devnull, os.O_WRONLY)
-                become(words, environment, folder, (given, writing, errors))
+                become(words, environment, folder, (given, writing, errors), has_signals)
             except BaseException as error:  # noqa: B902 the child ends here, whatever it is
                 os.write(2, f"{words[0]}: {getattr(error, 'strerror', None) or type(error).__name__}\n".encode())
             finally:
@@ -112,8 +110,8 @@ class Process:
                 pass
 
 
-def become(words, environment, folder, descriptors):
-    """Makes this forked process the one that is started."""
+def become(words, environment, folder, descriptors, has_signals):
+    """Makes this forked process the one that is started. What is Python too does with signals what it does anyway."""
     os.setsid()
     moved = [os.dup(descriptor) for descriptor in descriptors]
     for place, descriptor in enumerate(moved):
@@ -121,23 +119,22 @@ def become(words, environment, folder, descriptors):
     if folder is not None:
         os.fchdir(folder)
     close_others()
-    give_signals_back()
+    if has_signals:
+        give_signals_back()
     os.execve(words[0], words, environment)
 
 
-def run(words, environment, ignored):
+def run(words, environment, ignored=(), has_errors=True):
     """Runs a command in this folder and with this program's input and output, and gives its status."""
     pid = os.fork()
     if pid == 0:
         try:
+            if not has_errors:
+                os.dup2(os.open(os.devnull, os.O_WRONLY), 2)
             close_others()
             give_signals_back(ignored)
             os.execvpe(words[0], words, environment)
         finally:
             os._exit(CANNOT_START)
-    while True:
-        try:
-            code = os.waitstatus_to_exitcode(os.waitpid(pid, 0)[1])
-            return code if code >= 0 else 128 - code
-        except InterruptedError:
-            continue
+    code = os.waitstatus_to_exitcode(os.waitpid(pid, 0)[1])
+    return code if code >= 0 else 128 - code

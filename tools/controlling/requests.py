@@ -1,6 +1,4 @@
 """A request of HTTP, and what is answered: one request for each connection, a GET of /metrics or /."""
-from dataclasses import dataclass
-
 # How long a request is waited for, how long its response may take to be read, and how long its head is at most.
 REQUEST_SECONDS = 1
 RESPONSE_SECONDS = 10
@@ -34,15 +32,9 @@ def refusal_of(line):
     return NOT_FOUND if line.startswith(b"GET ") else NOT_ALLOWED
 
 
-@dataclass
-class Asked:
-    """What `rad_proxyctl metrics` has printed, and how it ended."""
-
-    octets: bytes
-    status: int
-
-    def response(self):
-        if self.status == 0:
-            return response("200 OK", self.octets, METRICS)
-        last = self.octets.rstrip(b"\n").rpartition(b"\n")[2]
-        return response("503 Service Unavailable", last.removeprefix(b"rad_proxyctl: ") + b"\n")
+def response_of(octets, status):
+    """What is answered by what `rad_proxyctl metrics` has printed, and by how it ended."""
+    if status == 0:
+        return response("200 OK", octets, METRICS)
+    last = octets.rstrip(b"\n").rpartition(b"\n")[2]
+    return response("503 Service Unavailable", last.removeprefix(b"rad_proxyctl: ") + b"\n")

@@ -12,11 +12,11 @@ from . import bounds, places
 from .check import VARIABLES, checker
 from .holding import Holder
 from .lanes import lanes_of
-from .output import say, tell
+from .output import end_by, say, tell
 from .owner import Folder, ask, run
 from .processes import found, given_environment
 from .processes import run as run_command
-from .stops import Stopped, Stops, end_by
+from .stops import Stopped, Stops
 
 
 class Refused(Fault):
@@ -62,10 +62,10 @@ def slow_lanes(before, now, seconds, wait):
 class Restart:
     """A restart of the service of a folder."""
 
-    def __init__(self, call, ignored):
-        self.call, self.folder, self.ignored = call, call.folder, ignored
+    def __init__(self, call):
+        self.call, self.folder = call, call.folder
         self.way = os.environ.get("RAD_PROXY_RESTART")
-        self.stops = Stops(ignored)
+        self.stops = Stops()
 
     def find_way(self):
         """Minds that there is a way to restart what serves in the folder, before anything is drained."""
@@ -183,7 +183,7 @@ class Restart:
     def replace(self):
         """Restarts what serves in the folder. What is started has the signals as this program was given them."""
         words = ["sh", "-c", self.way] if self.way else ["systemctl", "restart", self.call.unit]
-        if run_command(words, given_environment(), self.ignored) != 0:
+        if run_command(words, given_environment(), self.stops.ignored) != 0:
             raise Fault("the command that restarts it failed: look at the service, which is drained or has ended")
 
     def await_new(self):
@@ -227,7 +227,7 @@ class Restart:
             tell("\n".join(lane.line for lane in it.lanes))
             raise
         except Stopped as it:
-            end_by(it.number)
+            end_by(signal.Signals(it.number).name)
         self.go_through()
         os.close(lock)
 
@@ -235,4 +235,4 @@ class Restart:
 def is_active(unit):
     """Whether systemd has a unit as active."""
     systemctl = found("systemctl", os.environ.get("PATH", ""))
-    return systemctl is not None and run_command([systemctl, "is-active", "--quiet", unit], given_environment(), ()) == 0
+    return systemctl is not None and run_command([systemctl, "is-active", "--quiet", unit], given_environment(), has_errors=False) == 0

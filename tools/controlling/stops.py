@@ -1,8 +1,7 @@
 """Signals that end this program: what it has made is removed then, and after that it ends as the signal would have it."""
-import os
 import signal
 
-from .processes import ENDS
+ENDS = (signal.SIGHUP, signal.SIGINT, signal.SIGTERM)
 
 
 class Stopped(BaseException):
@@ -16,8 +15,9 @@ class Stopped(BaseException):
 class Stops:
     """Has the signals that are not ignored end what is done by `Stopped`; not while they are to wait."""
 
-    def __init__(self, ignored):
-        self.numbers = [number for number in ENDS if number not in ignored]
+    def __init__(self):
+        self.ignored = [number for number in ENDS if signal.getsignal(number) == signal.SIG_IGN]
+        self.numbers = [number for number in ENDS if number not in self.ignored]
         self.came, self.does_wait = None, False
 
     def catch(self, *more):
@@ -43,10 +43,3 @@ class Stops:
         if self.came is not None:
             raise Stopped(self.came)
 
-
-def end_by(number):
-    """Ends this program by a signal."""
-    signal.signal(number, signal.SIG_DFL)
-    signal.pthread_sigmask(signal.SIG_UNBLOCK, [number])
-    os.kill(os.getpid(), number)
-    raise SystemExit(128 + number)

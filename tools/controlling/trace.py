@@ -101,9 +101,9 @@ def follow(call, stops, log):
         raise Fault("the service has ended or was started again: nothing is traced any more")
 
 
-def trace(call, ignored):
+def trace(call):
     """Traces for the seconds that are given. Whatever ends this, the file is removed."""
-    words, stops = find_log(call), Stops(ignored)
+    words, stops = find_log(call), Stops()
     stops.catch(signal.SIGPIPE)
     stops.wait()
     log = Log(words, int(call.seconds or bounds.TRACE_SECONDS))

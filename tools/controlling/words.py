@@ -1,8 +1,6 @@
 """The words of a call: the one place where they are told apart."""
 import os
-import re
 import sys
-from dataclasses import dataclass, field
 
 from version import VERSION
 
@@ -49,44 +47,41 @@ COMMANDS = ("state", "drain", "top", "metrics", "http", "probe", "restart", "che
 VALUES = {"": ("-i", "-d"), "probe": ("-s", "-c", "--timeout"), "restart": ("-c", "--wait", "--out"),
           "trace": ("--user", "--session", "--client", "--seconds")}
 FLAGS = {"restart": ("--force",), "check": ("--strict",)}
-WHOLE = re.compile(r"0|[1-9][0-9]{0,4}", re.ASCII)
-SECONDS = re.compile(r"[0-9]{1,6}(\.[0-9]{1,3})?", re.ASCII)
+DIGITS = frozenset("0123456789")
 
 
 class Misused(Exception):
     """The call is wrong."""
 
 
-@dataclass
 class Call:
     """What is to be done, and with what."""
 
-    word: str = ""
-    folder: str = ""
-    unit: str = ""
-    config: str = ""
-    file: str = ""
-    server: str = ""
-    seconds: str = ""
-    wait: int = bounds.DRAIN_SECONDS
-    out: int = 0
-    is_forced: bool = False
-    is_strict: bool = False
-    is_named: bool = False
-    wanted: list = field(default_factory=list)
-
-    def __post_init__(self):
+    def __init__(self):
         given = os.environ.get("RUNTIME_DIRECTORY")
-        self.folder = absolute(given or f"{places.RUN}/rad_proxy")
-        self.unit = "" if given else "rad_proxy"
-        self.config = configuration_of("")
+        self.word = self.file = self.server = self.seconds = ""
+        self.folder, self.unit = absolute(given or f"{places.RUN}/rad_proxy"), "" if given else "rad_proxy"
+        self.config, self.wanted = configuration_of(""), []
+        self.wait, self.out = bounds.DRAIN_SECONDS, 0
+        self.is_forced = self.is_strict = self.is_named = False
+
+
+def are_digits(text, most):
+    """Whether a text is of digits alone, one at least."""
+    return 1 <= len(text) <= most and DIGITS.issuperset(text)
 
 
 def whole(text):
     """A whole number of at most five digits, without a zero before others."""
-    if not WHOLE.fullmatch(text):
+    if not are_digits(text, 5) or text != "0" and text.startswith("0"):
         raise Misused
     return int(text)
+
+
+def are_seconds(text):
+    """Whether a text is a number of seconds above 0: at most six digits, and at most three behind a point."""
+    before, point, behind = text.partition(".")
+    return are_digits(before, 6) and (not point or are_digits(behind, 3)) and bool(text.strip("0."))
 
 
 def take_value(call, option, value):
@@ -102,7 +97,7 @@ def take_value(call, option, value):
     elif option == "-c":
         call.config = absolute(value)
     elif option == "--timeout":
-        if not SECONDS.fullmatch(value) or not value.strip("0."):
+        if not are_seconds(value):
             raise Misused
         call.seconds = value
     elif option == "--wait":
