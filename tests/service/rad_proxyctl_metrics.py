@@ -2,25 +2,25 @@
 
 usage: python3 -m tests.service.rad_proxyctl_metrics PROGRAM [TEST ..]
 
-Without counters `rad_proxyctl metrics` makes its metrics of the lines of `state`, by the function `as_metrics` of its script, which has
-their names, kinds and help texts once more. A test is a function below; its first line says what holds. The last line is
+Without counters `rad_proxyctl metrics` makes its metrics of the lines of `state`, by the function `metrics_of`, which has their names,
+kinds and help texts once more. A test is a function below; its first line says what holds. The last line is
 `N passed, M failed`.
 """
-import re
-import subprocess
+import sys
 
 from tests.lib import TOP, Stage, hope, is_so, need, try_in_folders
 
-SCRIPT = TOP / "packaging" / "rad_proxyctl.in"
 # The families that only rad_proxyctl has.
 OWN = set()
 
 
 def made_of(state):
-    """What `as_metrics` prints for lines of `state`."""
-    function = re.search(r"^as_metrics\(\) \{\n.*?^\}\n", SCRIPT.read_text("utf-8"), re.M | re.S)[0]
-    ran = subprocess.run(["sh", "-c", f"{function}as_metrics"], input=state, capture_output=True, text=True, check=True)
-    return ran.stdout.splitlines()
+    """What `metrics_of` makes of lines of `state`."""
+    sys.path.insert(0, str(TOP / "tools"))
+    from controlling.lanes import lanes_of
+    from controlling.metrics import metrics_of
+
+    return metrics_of(lanes_of(state))
 
 
 def families(lines):
@@ -43,7 +43,7 @@ def both(program, folder):
         stage.round_trip(1)
         state = stage.say(b"state", 2)
         need(is_so(stage.proxy.counters.exists), "there are no counters")
-        return families(made_of("".join(f"{line}\n" for line in state))), families(stage.proxy.counters.read_text("utf-8").splitlines())
+        return families(made_of(state)), families(stage.proxy.counters.read_text("utf-8").splitlines())
 
 
 def each_family_is_the_programs(program, folder):

@@ -7,6 +7,7 @@ Each test is a function below, and its first line tells what holds. Names choose
 root runs this, and else told as left out. The last line is `N passed, M failed`.
 """
 import contextlib
+import grp
 import json
 import os
 import pathlib
@@ -533,7 +534,7 @@ def top_of_no_proxy_ends(service):
 def metrics_of_no_proxy_are_removed(service):
     """Where no proxy answers, `metrics FILE` removes FILE, says why, and ends with 4; a proxy that was stopped is none."""
     file = service.room / "rad_proxy.prom"
-    file.write_text("old\n")
+    file.write_text("# HELP rad_proxy_old\n")
     done = service.ask("metrics", str(file))
     hope("no service", (done.returncode, done.stderr, file.exists()),
          (4, f"rad_proxyctl: no service in {service.run}, or no right to ask it\n", False))
@@ -566,11 +567,11 @@ def metrics_go_to_no_other_file(service):
     done = service.ask("state", str(file))
     hope("state has no file", done.returncode, 1)
     file = folder / "rad_proxy.prom"
-    file.write_text("old\n")
+    file.write_text("# HELP rad_proxy_old\n")
     most = lambda: resource.setrlimit(resource.RLIMIT_FSIZE, (100, 100))
     done = service.ask("metrics", str(file), preexec_fn=most)
     hope("no room", (done.returncode, done.stderr), (4, f"rad_proxyctl: cannot write {file}\n"))
-    hope("what is left", (os.listdir(folder), file.read_text()), ([file.name], "old\n"))
+    hope("what is left", (os.listdir(folder), file.read_text()), ([file.name], "# HELP rad_proxy_old\n"))
 
 
 def scraped(service, octets, is_closed=False):
@@ -610,11 +611,11 @@ def metrics_are_had_by_http(service):
 
 
 def http_waits_for_no_client(service):
-    """A client that sends no whole request is answered after five seconds; where no proxy answers, the response says so."""
+    """A client that sends no whole request is answered after a second; where no proxy answers, the response says so."""
     began = time.monotonic()
     first, _, text = scraped(service, b"GET /metrics HTTP/1.1\r\n")
-    hope("no whole request", (first, text), ("HTTP/1.1 400 Bad Request", "no request of HTTP in 5 seconds\n"))
-    hope("seconds", 4.5 < time.monotonic() - began < 15, True)
+    hope("no whole request", (first, text), ("HTTP/1.1 400 Bad Request", "no request of HTTP in 1 second\n"))
+    hope("seconds", 0.9 < time.monotonic() - began < 4, True)
     first, _, text = scraped(service, b"GET /metrics HTTP/1.1\r\n\r\n")
     hope("no service", (first, text),
          ("HTTP/1.1 503 Service Unavailable", f"no service in {service.run}, or no right to ask it\n"))
@@ -766,52 +767,94 @@ def an_answer_that_cannot_be_written_is_told(service):
         hope(words, (done.returncode, done.stderr), (4, "rad_proxyctl: cannot write the answer\n"))
 
 
+def changed(service, name, *pairs):
+    """Changes texts of an installed module of rad_proxyctl, each of which stands there once."""
+    path = service.room / "usr/libexec/rad_proxy/controlling" / name
+    text = path.read_text()
+    for old, new in pairs:
+        hope(f"how often {name} has {old!r}", text.count(old), 1)
+        text = text.replace(old, new)
+    path.write_text(text)
+
+
 def whoever_keeps_the_pipe_is_not_waited_for(service):
     """A process that was left behind while asked, and still has the pipe of the answer, does not keep rad_proxyctl."""
     service.start()
-    script = service.ctl.read_text()
-    hope("how long it reads", "\nREAD_SECONDS=30\n" in script, True)
-    service.ctl.write_text(script.replace("\nREAD_SECONDS=30\n", "\nREAD_SECONDS=4\n"))
-    folder = service.room / "tools"
-    folder.mkdir()
-    (folder / "mkfifo").write_text(f'#!/bin/sh\nsetsid sleep {PATIENCE} &\nexec {shutil.which("mkfifo")} "$@"\n')
-    (folder / "mkfifo").chmod(0o755)
-    more = {"PATH": f"{folder}:{os.environ['PATH']}"}
-    done = service.ask("state", env=service.environment | more, timeout=PATIENCE / 2)
-    hope("status", done.returncode in (0, 4), True)
+    changed(service, "bounds.py", ("\nREAD_SECONDS = 30\n", "\nREAD_SECONDS = 4\n"))
+    changed(service, "asking.py", ("    os.umask(0o077)\n", f"    os.umask(0o077)\n    os.spawnlp(os.P_NOWAIT, 'sleep', 'sleep', '{PATIENCE}')\n"))
+    begun = time.monotonic()
+    done = service.ask("state", timeout=PATIENCE / 2)
+    hope("its answer", (done.returncode, done.stdout), (0, NEW_LANE))
+    hope("seconds", 3.5 < time.monotonic() - begun < 15, True)
 
 
-def the_owner_gets_nothing_of_roots(service):
-    """Where root asks, the process of the folder's owner has none of the files that root's shell has open."""
+def a_service_of_a_stranger(service):
+    """A service of STRANGER's, which root asks, and its program."""
     if os.getuid() != 0:
         raise LeftOut("it wants root")
-    secret = service.room / "secret"
-    secret.write_text("root's own\n")
     service.room.chmod(0o755)
     service.run.mkdir(0o700)
     os.chown(service.run, STRANGER, STRANGER)
     service.file.chmod(0o644)
     process = service.start(user=STRANGER, group=STRANGER, extra_groups=[])
-    program = until("program", lambda: [pid for pid, name in service.children(process) if name == "rad_proxy"])[0]
+    return until("program", lambda: [pid for pid, name in service.children(process) if name == "rad_proxy"])[0]
+
+
+def the_owner_gets_nothing_of_roots(service):
+    """What root starts as the folder's owner has the descriptors 0 to 2 alone, whichever are open where root calls; its own session,
+    a clean environment, no new privileges, and no group but the folder's."""
+    program = a_service_of_a_stranger(service)
+    secret = service.room / "secret"
+    secret.write_text("root's own\n")
     os.kill(program, signal.SIGSTOP)
-    words = ["sh", "-c", '"$0" state 3<"$1" 5<"$1" 9<"$1"', service.ctl, secret]
-    asker = subprocess.Popen(words, env=service.environment, stdout=subprocess.DEVNULL, stderr=subprocess.DEVNULL)
+    kept = [3, 9, 10, 12, 250]
+    file = os.open(secret, os.O_RDWR)
+    script = "import os, sys\nfor at in map(int, sys.argv[2:]): os.dup2(int(sys.argv[1]), at)\nos.execv(os.environ['CTL'], ['rad_proxyctl', 'state'])"
+    words = [sys.executable, "-c", script, str(file), *map(str, kept)]
+    asker = subprocess.Popen(words, env=service.environment | {"CTL": str(service.ctl), "ROOTS": "own"}, stdout=subprocess.DEVNULL,
+                             stderr=subprocess.DEVNULL, pass_fds=[file])
+    try:
+        pid = until("somebody asks", lambda: [path.parent for path in pathlib.Path("/proc").glob("[0-9]*/cmdline")
+                                              if is_of_a_stranger_who_asks(path)])[0]
+        until("it waits for the answer", lambda: (service.run / "answer").exists())
+        own = {"answer", "lock", "commands"}
+        opened = {int(link.name): os.readlink(link) for link in pid.glob("fd/*")}
+        others = {at: name for at, name in opened.items() if at > 2 and pathlib.Path(name).name not in own}
+        hope("descriptors of others", others, {})
+        hope("input and output", [name.partition(":")[0] for at, name in sorted(opened.items()) if at <= 2], ["/dev/null", "pipe", "pipe"])
+        status = dict(line.split(":\t", 1) for line in (pid / "status").read_text().splitlines() if ":\t" in line)
+        hope("its rights", [status[name].split() for name in ("NoNewPrivs", "Uid", "Gid", "Groups", "CapEff")],
+             [["1"], 4 * [str(STRANGER)], 4 * [str(STRANGER)], [str(STRANGER)], ["0000000000000000"]])
+        hope("its environment", (pid / "environ").read_bytes(), b"PATH=/usr/sbin:/usr/bin:/sbin:/bin\0")
+        hope("its session", os.getsid(int(pid.name)) not in (os.getsid(0), os.getsid(asker.pid)), True)
+    finally:
+        os.close(file)
+        os.kill(program, signal.SIGCONT)
+        asker.wait(PATIENCE)
 
-    def open_files():
-        """What those that ask as the owner have open, once there is one."""
-        files = [path for path in pathlib.Path("/proc").glob("[0-9]*/cmdline") if is_of_a_stranger_who_asks(path)]
-        return [os.readlink(link) for path in files for link in path.parent.glob("fd/*")]
 
-    hope("root's file is among them", str(secret) in until("somebody asks", open_files), False)
-    os.kill(program, signal.SIGCONT)
-    asker.wait(PATIENCE)
-    process.kill()
+def the_owner_has_its_groups(service):
+    """What root starts as the folder's owner has the groups of the system's database that the owner is in, and the folder's."""
+    if os.getuid() != 0:
+        raise LeftOut("it wants root")
+    owner = next((pwd.getpwnam(name) for group in grp.getgrall() if group.gr_gid for name in group.gr_mem
+                  if name in {it.pw_name for it in pwd.getpwall()} and pwd.getpwnam(name).pw_uid), None)
+    if owner is None:
+        raise LeftOut("nobody here is in another group than the own one")
+    service.room.chmod(0o755)
+    service.run.mkdir(0o700)
+    os.chown(service.run, owner.pw_uid, STRANGER)
+    os.mkfifo(service.run / "commands")
+    os.chown(service.run / "commands", owner.pw_uid, STRANGER)
+    changed(service, "asking.py", ("    os.umask(0o077)\n", "    print(*sorted(os.getgroups()))\n    return 4\n"))
+    wanted = sorted({*os.getgrouplist(owner.pw_name, STRANGER)})
+    hope("groups", service.ask("state").stderr.splitlines()[0], " ".join(map(str, wanted)))
 
 
 def is_of_a_stranger_who_asks(path):
     """Whether this command line in /proc is that of a process of STRANGER's that asks."""
     with contextlib.suppress(OSError):
-        return path.stat().st_uid == STRANGER and b"--ask" in path.read_bytes()
+        return path.stat().st_uid == STRANGER and b"asking.py" in path.read_bytes() and b"setpriv" not in path.read_bytes()
     return False
 
 
@@ -1057,7 +1100,7 @@ TESTS = [
     top_draws_what_is_there, top_draws_a_table_as_soon_as_its_numbers_are_there, top_of_no_proxy_ends, metrics_of_no_proxy_are_removed, metrics_go_to_no_other_file, metrics_are_had_by_http, http_waits_for_no_client, each_panel_of_the_dashboard_draws, sent_again_is_never_less_than_nothing, counters_that_are_written_late_are_waited_for,
     memory_is_refused_and_nothing_ends, relative_paths_hold, an_answer_that_cannot_be_written_is_told,
     whoever_keeps_the_pipe_is_not_waited_for, the_unit_takes_no_core_dump, root_asks_as_the_owner,
-    the_owner_gets_nothing_of_roots, no_answer_costs_more_than_the_bounds, the_largest_answers_are_whole, a_purge_leaves_no_link,
+    the_owner_gets_nothing_of_roots, the_owner_has_its_groups, no_answer_costs_more_than_the_bounds, the_largest_answers_are_whole, a_purge_leaves_no_link,
     node_exporter_reads_the_counters, root_serves_nobody_elses_folder,
 ]
 

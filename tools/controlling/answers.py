@@ -31,7 +31,7 @@ def lines_of(octets):
     lines = octets.translate(None, NOT_TEXT).decode("ascii").split("\n")
     if lines[-1] == "":
         lines.pop()
-    lanes = sum(line.split(None, 1)[:1] == ["lane"] for line in lines if "lane" in line)
+    lanes = sum(line.split(None, 1)[:1] == ["lane"] for line in lines if line.lstrip().startswith("lane"))
     if len(lines) > MOST_LINES or lanes > MOST_LANES or any(len(line) > LONGEST_LINE for line in lines):
         raise NoProxy
     return lines

@@ -23,10 +23,14 @@ FAMILIES = (
 OWN = b"# HELP rad_proxy_"
 
 
-def as_metrics(lines):
-    """Prometheus' lines of lines of `state`, behind all other lines."""
-    found = [line for line in lines if line.split(None, 1)[:1] != ["lane"]]
-    lanes = lanes_of(line for line in lines if line.split(None, 1)[:1] == ["lane"])
+def is_of_lane(line):
+    """Whether a line is one of `state`."""
+    return line.startswith("lane ")
+
+
+def metrics_of(lanes):
+    """Prometheus' lines of the lanes."""
+    found = []
     for name, kind, told, value in FAMILIES if lanes else ():
         found += [f"# HELP rad_proxy_{name} {told}", f"# TYPE rad_proxy_{name} {kind}"]
         found += [f'rad_proxy_{name}{{lane="{at}",home="{lane.home}"}} {value(lane)}' for at, lane in enumerate(lanes)]
@@ -117,7 +121,8 @@ def tell_metrics(folder, file):
         if file and see_own(file):
             os.unlink(file)
         raise
-    octets = "".join(f"{line}\n" for line in as_metrics(lines)).encode("ascii")
+    found = [line for line in lines if not is_of_lane(line)] + metrics_of(lanes_of(filter(is_of_lane, lines)))
+    octets = "".join(f"{line}\n" for line in found).encode("ascii")
     if file:
         write_file(file, octets)
     else:
