@@ -1,0 +1,482 @@
+"""Tries rad_proxyctl over a stand-in for the service, which answers, stalls and drains as a test wants it.
+
+usage: python3 -m tests.service.rad_proxyctl_stand_in PROGRAM [NAME ..]
+
+Each test is a function below, and its first line tells what holds. It wants no systemd, and uses no socket. What needs another user is
+tried where root runs this, and else told as left out. The last line is `N passed, M failed`.
+"""
+import contextlib
+import fcntl
+import os
+import pathlib
+import re
+import shutil
+import signal
+import subprocess
+import threading
+import time
+from concurrent.futures import ThreadPoolExecutor
+
+from tests.lib import PATIENCE, TOP, LeftOut, environment, heed_signals, hope, need, try_named, until
+
+REFUSED, FAILED, LEFT_OVER = 5, 4, 3
+STRANGER = 65534
+ENDS = (signal.SIGHUP, signal.SIGINT, signal.SIGTERM)
+# At how many moments a restart is stopped, over how many seconds they are spread, and how many run at once.
+MOMENTS, SPREAD, AT_ONCE = 40, 4.0, 4
+CHECKER = "#!/bin/sh\necho clients 1 homes 1 realms 1\n"
+# The numbers of a text of counters: of a service that runs for five hours and seven minutes, whose answers take 10 to 25 ms.
+TEXT = """# HELP rad_proxy_build_info The program.
+# TYPE rad_proxy_build_info gauge
+rad_proxy_build_info{{version="0.1.0"}} 1
+rad_proxy_start_time_seconds {start:.3f}
+rad_proxy_report_time_seconds {now:.3f}
+rad_proxy_home_up{{lane="0",home="h1"}} 1
+rad_proxy_home_since_time_seconds{{lane="0",home="h1"}} {start:.3f}
+rad_proxy_last_answer_time_seconds{{lane="0",home="h1"}} 0.000
+rad_proxy_accepted_total{{lane="0",home="h1"}} {count}
+rad_proxy_book{{lane="0",home="h1"}} 1
+rad_proxy_book_limit{{lane="0",home="h1"}} 100
+rad_proxy_reply_seconds_bucket{{lane="0",home="h1",le="0.010"}} 0
+rad_proxy_reply_seconds_bucket{{lane="0",home="h1",le="0.025"}} {count}
+rad_proxy_reply_seconds_bucket{{lane="0",home="h1",le="+Inf"}} {count}
+"""
+
+
+class StandIn(threading.Thread):
+    """What stands for a service in a folder: it answers `state` and `drain`, as the attributes say, which a test changes."""
+
+    def __init__(self, folder, owner):
+        super().__init__(daemon=True)
+        self.folder, self.is_over = folder, False
+        self.mode, self.queued, self.outstanding, self.rate = "open", 0, 0, 0
+        self.reads, self.answers_drain, self.writes = True, True, False
+        self.drained_at, self.begun = None, time.monotonic()
+        folder.mkdir(0o700)
+        os.mkfifo(folder / "commands", 0o600)
+        for path in (folder, folder / "commands"):
+            os.chown(path, owner, owner)
+        self.commands = os.open(folder / "commands", os.O_RDWR | os.O_NONBLOCK)
+        self.count = 0
+        self.start()
+
+    def line(self):
+        answered = int((time.monotonic() - self.begun) * self.rate)
+        accepted = answered + self.queued + self.outstanding
+        return (f"lane 0 h1 up {self.mode} accepted {accepted} queued {self.queued} outstanding {self.outstanding} answered {answered} "
+                "opening 0")
+
+    def answer_of(self, command):
+        if command == "state":
+            return self.line()
+        if command == "drain":
+            self.mode, self.drained_at = "draining" if self.queued + self.outstanding else "done", time.monotonic()
+            return "drain: 0 7" if self.answers_drain else None
+        return "unknown"
+
+    def obey(self):
+        with contextlib.suppress(BlockingIOError):
+            for command in os.read(self.commands, 4096).decode().split():
+                answer = self.answer_of(command)
+                if answer is not None:
+                    self.write(answer)
+                elif command == "drain":
+                    return
+
+    def write(self, line):
+        with contextlib.suppress(OSError):
+            fifo = os.open(self.folder / "answer", os.O_RDWR | os.O_NONBLOCK)
+            os.write(fifo, f"{line}\n".encode())
+            os.close(fifo)
+
+    def write_counters(self):
+        self.count += 10
+        new = self.folder / "counters.new"
+        new.write_text(TEXT.format(start=time.time() - 18_459, now=time.time(), count=self.count))
+        new.replace(self.folder / "counters")
+
+    def run(self):
+        due = time.monotonic()
+        while not self.is_over:
+            if self.reads:
+                self.obey()
+            if self.writes and time.monotonic() >= due:
+                self.write_counters()
+                due = time.monotonic() + 0.3
+            time.sleep(0.002)
+        os.close(self.commands)
+
+    def stop(self):
+        self.is_over = True
+        self.join()
+
+
+class Stage:
+    """rad_proxyctl, installed below a folder of this test, and stand-ins that it asks."""
+
+    def __init__(self, program, room):
+        self.room, self.stand_ins = room, []
+        room.chmod(0o755)
+        subprocess.run(["make", "-s", "install-proxy", f"PREFIX={room}/usr", f"SYSCONFDIR={room}/etc", f"RUNDIR={room}/run",
+                        f"STATEDIR={room}/var", f"PROGRAM={program}"], cwd=TOP, check=True)
+        (room / "run").mkdir(mode=0o755)
+        self.ctl, self.config = room / "usr/sbin/rad_proxyctl", room / "etc/rad_proxy/rad_proxy.toml"
+        self.config.write_text("# none\n")
+        checker = room / "checker"
+        checker.write_text(CHECKER)
+        for path in (checker, self.config):
+            path.chmod(0o755)
+        self.environment = environment() | {"RAD_PROXY_PROGRAM": str(checker)}
+        for name in ("RUNTIME_DIRECTORY", "RAD_PROXY_LOG"):
+            self.environment.pop(name, None)
+
+    def stand_in(self, name="service", owner=None):
+        made = StandIn(self.room / name, os.getuid() if owner is None else owner)
+        self.stand_ins.append(made)
+        return made
+
+    def restarting(self, one):
+        """What restarts this one: it is open then, and the file `out` is gone, as `serve` has it."""
+        script = self.room / f"way-{one.folder.name}"
+        script.write_text(f"#!/bin/sh\necho restart >>{script}.calls\nrm -f {one.folder}/out\n")
+        script.chmod(0o755)
+        calls = pathlib.Path(f"{script}.calls")
+        threading.Thread(target=self.open_again, args=(one, calls), daemon=True).start()
+        return {"RAD_PROXY_RESTART": str(script)}, calls
+
+    def open_again(self, one, calls):
+        while not one.is_over and not calls.exists():
+            time.sleep(0.01)
+        one.mode = "open"
+
+    def begin(self, one, *words, **options):
+        more = options.pop("variables", {})
+        given = {"stdin": subprocess.DEVNULL, "stdout": subprocess.PIPE, "stderr": subprocess.PIPE, "text": True,
+                 "env": self.environment | more, "start_new_session": True} | options
+        return subprocess.Popen([self.ctl, "-d", one.folder, *words], **given)
+
+    def ask(self, one, *words, **options):
+        asker = self.begin(one, *words, **options)
+        out, err = asker.communicate(timeout=PATIENCE)
+        return asker.returncode, out, err
+
+    def stop(self):
+        for one in self.stand_ins:
+            one.stop()
+
+
+def names_in(folder):
+    """What stands in a folder, but for the fifo of commands and the lock of those who ask."""
+    return sorted(path.name for path in folder.iterdir() if path.name not in ("commands", "lock", "restart.lock"))
+
+
+def begins_by_default():
+    """What is started is ended by each signal."""
+    for number in ENDS:
+        signal.signal(number, signal.SIG_DFL)
+
+
+def out_is_taken_away_where_it_is_stopped_before_the_drain(stage):
+    """HUP, INT, TERM and KILL while the file `out` stands end the restart by that signal; the file is gone, and nothing was drained."""
+    for number in (*ENDS, signal.SIGKILL):
+        one = stage.stand_in(f"by {number.name}")
+        way, calls = stage.restarting(one)
+        asker = stage.begin(one, "restart", "--force", "--out", "30", variables=way, preexec_fn=begins_by_default)
+        until("the file out", (one.folder / "out").exists)
+        time.sleep(0.2)
+        asker.send_signal(number)
+        asker.communicate(timeout=PATIENCE)
+        hope(f"{number.name}: status", asker.returncode, -number)
+        if number == signal.SIGKILL:
+            until("the file is gone", lambda: not (one.folder / "out").exists())
+        hope(f"{number.name}: what is left", (names_in(one.folder), one.mode, calls.exists()), ([], "open", False))
+
+
+def stopped_at(stage, number, moment):
+    """Stops a restart at a moment, and sees what it leaves."""
+    one = stage.stand_in(f"at {number.name} {moment:.3f}")
+    way, calls = stage.restarting(one)
+    asker = stage.begin(one, "restart", "--force", "--out", "1", variables=way, preexec_fn=begins_by_default)
+    time.sleep(moment)
+    asker.send_signal(number)
+    _, told = asker.communicate(timeout=PATIENCE)
+    place = f"{number.name} at {moment:.3f} s, status {asker.returncode}, {told[-200:]!r}"
+    is_drained = one.mode != "open"
+    wanted = ["out"] if is_drained else []
+    with contextlib.suppress(AssertionError):
+        until("the end", lambda: names_in(one.folder) == wanted and (one.mode != "open") == is_drained)
+    hope(f"{place}: what is left", names_in(one.folder), ["out"] if one.mode != "open" else [])
+    return is_drained, calls.exists()
+
+
+def no_moment_of_a_stop_leaves_something(stage):
+    """TERM, HUP or KILL at any moment of a restart leaves `out` only where the proxy drains, and nothing else; both are met."""
+    moments = [((signal.SIGTERM, signal.SIGHUP, signal.SIGKILL)[at % 3], SPREAD * at / MOMENTS) for at in range(MOMENTS)]
+    with ThreadPoolExecutor(AT_ONCE) as pool:
+        found = list(pool.map(lambda pair: stopped_at(stage, *pair), moments))
+    need(any(not is_restarted for _, is_restarted in found), "each was restarted:", found)
+
+
+def out_is_taken_away_where_the_proxy_stalls(stage):
+    """Where the proxy reads no command any more at the drain, the restart says so and ends with 4; `out` is gone, since it does not drain."""
+    one = stage.stand_in()
+    way, calls = stage.restarting(one)
+    asker = stage.begin(one, "restart", "--force", "--out", "2", variables=way)
+    until("the file out", (one.folder / "out").exists)
+    one.reads = False
+    _, told = asker.communicate(timeout=PATIENCE)
+    hope("how it ends", (asker.returncode, told), (FAILED, "rad_proxyctl: no answer in 5 seconds\nrad_proxyctl: not restarted\n"))
+    hope("what is left", (names_in(one.folder), calls.exists()), ([], False))
+    one.reads = True
+    time.sleep(0.3)
+    hope("it is not obeyed later", one.mode, "open")
+
+
+def out_stays_where_the_proxy_drains_without_an_answer(stage):
+    """Where the proxy drains, and does not answer that, the restart ends with 4 and `out` stays."""
+    one = stage.stand_in()
+    one.answers_drain = False
+    way, calls = stage.restarting(one)
+    status, _, told = stage.ask(one, "restart", "--force", variables=way)
+    hope("how it ends", (status, told.splitlines()[-1]), (FAILED, "rad_proxyctl: not restarted"))
+    hope("what is left", (names_in(one.folder), one.mode, calls.exists()), (["out"], "done", False))
+
+
+def the_look_at_the_rate_ends_once_it_suffices(stage):
+    """Where one second's answers suffice for all that waits, the restart looks no longer; at a lower rate it refuses after ten seconds."""
+    one = stage.stand_in()
+    one.queued, one.outstanding, one.rate = 300, 33, 333
+    way, calls = stage.restarting(one)
+    asker = stage.begin(one, "restart", variables=way)
+    begun = time.monotonic()
+    until("it is drained", lambda: one.drained_at is not None, 30)
+    need(one.drained_at - begun < 8, "it looked for", one.drained_at - begun, "seconds")
+    one.queued = one.outstanding = 0
+    one.mode = "done"
+    hope("how it ends", (asker.communicate(timeout=PATIENCE)[1], asker.returncode, calls.exists()), ("", 0, True))
+
+
+def what_is_outstanding_counts_in_the_rate(stage):
+    """What is outstanding has to be answered too: where nothing is queued and more outstanding than is answered in time, it refuses."""
+    one = stage.stand_in()
+    one.outstanding, one.rate = 60, 2
+    way, calls = stage.restarting(one)
+    begun = time.monotonic()
+    status, _, told = stage.ask(one, "restart", "--wait", "3", variables=way)
+    need(time.monotonic() - begun > 9.5, "it looked for", time.monotonic() - begun, "seconds")
+    hope("how it ends", (status, told.splitlines()[-1]),
+         (REFUSED, "rad_proxyctl: not restarted, and not drained: more is queued and outstanding than is answered in 3 seconds, "
+          "at the rate of the last 10"))
+    hope("what is left", (names_in(one.folder), one.mode, calls.exists()), ([], "open", False))
+
+
+def nobody_else_keeps_root_from_a_restart(stage):
+    """Whoever may read the configuration and locks it, or what stands in the folder, keeps nobody from a restart; root's lock is its own."""
+    if os.getuid() != 0:
+        raise LeftOut("it wants root")
+    one = stage.stand_in(owner=STRANGER)
+    (one.folder / "restart.lock").touch()
+    os.chown(one.folder / "restart.lock", STRANGER, STRANGER)
+    way, _ = stage.restarting(one)
+    one.outstanding = 1
+    with open(stage.config) as config, open(one.folder / "restart.lock") as other, open(one.folder / "commands") as fifo:
+        for file in (config, other):
+            fcntl.flock(file, fcntl.LOCK_EX)
+        asker = stage.begin(one, "restart", "--force", "--wait", "30", variables=way)
+        until("it is drained", lambda: one.drained_at is not None, 30)
+        status, _, told = stage.ask(one, "restart", "--force", variables=way)
+        hope("a second one", (status, told), (FAILED, "rad_proxyctl: another one restarts it\n"))
+        locks = [path for path in (stage.room / "run").iterdir()]
+        hope("locks", [(oct(path.stat().st_mode), path.stat().st_uid) for path in locks], [("0o100600", 0)])
+        one.outstanding, one.mode = 0, "done"
+        hope("how it ends", (asker.communicate(timeout=PATIENCE)[1], asker.returncode), ("", 0))
+        fifo.fileno()
+    path = locks[0]
+    path.unlink()
+    path.symlink_to(stage.config)
+    status, _, told = stage.ask(one, "restart", "--force", variables=way)
+    hope("a link in its place", (status, told.startswith(f"rad_proxyctl: cannot lock {path}: ")), (FAILED, True))
+
+
+def who_is_not_root_locks_beside_the_fifos(stage):
+    """A restart that the service's user calls takes a lock of its own in the folder, whatever the umask; a second one is refused."""
+    if os.getuid() != 0:
+        raise LeftOut("it wants root")
+    one = stage.stand_in(owner=STRANGER)
+    script, calls = stage.restarting(one)
+    one.outstanding = 1
+    given = {"user": STRANGER, "group": STRANGER, "extra_groups": [], "variables": {"RAD_PROXY_RESTART": "exit 7"}, "umask": 0o777}
+    asker = stage.begin(one, "restart", "--force", "--wait", "8", **given)
+    until("it is drained", lambda: one.drained_at is not None, 30)
+    it = (one.folder / "restart.lock").stat()
+    hope("its lock", (oct(it.st_mode), it.st_uid), ("0o100600", STRANGER))
+    hope("a second one", stage.ask(one, "restart", "--force", **given)[::2], (FAILED, "rad_proxyctl: another one restarts it\n"))
+    one.mode = "done"
+    one.outstanding = 0
+    hope("how it ends", asker.communicate(timeout=PATIENCE)[1].splitlines()[-1][:53], "rad_proxyctl: the command that restarts it failed: lo")
+
+
+def traced(stage, one, *words, **options):
+    """A trace of a session, which runs, and the log that it reads."""
+    log = stage.room / f"log {one.folder.name}"
+    log.touch()
+    asker = stage.begin(one, "trace", "--session", "S1", *words, variables={"RAD_PROXY_FOLLOW": f"tail -n +1 -F '{log}'"}, **options)
+    until("the file trace", (one.folder / "trace").exists)
+    return asker, log
+
+
+def a_trace_ends_where_the_service_does(stage):
+    """Where the service is started again or ends, which removes the file, or nobody reads its commands any more, the trace says so and ends
+    with 4; what the log had until then is printed."""
+    def started_again(one):
+        (one.folder / "trace").unlink()
+
+    def killed(one):
+        one.stop()
+
+    def gone(one):
+        shutil.rmtree(one.folder)
+
+    for end in (started_again, killed, gone):
+        one = stage.stand_in(end.__name__)
+        asker, log = traced(stage, one, "--seconds", "40")
+        log.write_text("level=info event=came trace=1\nlevel=info event=trace-left-out count=12\nlevel=info event=other\n")
+        time.sleep(0.5)
+        end(one)
+        begun = time.monotonic()
+        out, told = asker.communicate(timeout=PATIENCE)
+        need(time.monotonic() - begun < 20, "it took", time.monotonic() - begun)
+        hope(f"{end.__name__}: how it ends", (asker.returncode, told),
+             (FAILED, "rad_proxyctl: the service has ended or was started again: nothing is traced any more\n"))
+        hope("what it prints", out, "level=info event=came trace=1\nlevel=info event=trace-left-out count=12\n")
+        hope("the file", (one.folder / "trace").exists(), False)
+
+
+def no_stop_of_a_trace_leaves_the_file(stage):
+    """KILL too, and a reader that goes away, leave neither the file nor a process of it; another one's file stays."""
+    one = stage.stand_in()
+    asker, log = traced(stage, one, "--seconds", "40")
+    asker.kill()
+    asker.communicate(timeout=PATIENCE)
+    until("the file is gone", lambda: names_in(one.folder) == [])
+    until("nothing reads the log", lambda: not processes_with(str(log)))
+    asker, log = traced(stage, one, "--seconds", "40")
+    asker.stdout.close()
+    for _ in range(2):
+        with log.open("a") as file:
+            file.write("level=info event=came trace=1\n")
+        time.sleep(0.5)
+    hope("status", asker.wait(PATIENCE), FAILED)
+    hope("the file", names_in(one.folder), [])
+    asker, log = traced(stage, one, "--seconds", "40")
+    (one.folder / "trace").rename(one.folder / "mine")
+    (one.folder / "trace").write_text("session S2\n")
+    hope("status", asker.wait(PATIENCE), FAILED)
+    hope("another one's file", (one.folder / "trace").read_text(), "session S2\n")
+
+
+def a_trace_whose_output_nobody_reads_ends(stage):
+    """Where standard output is full and nobody reads it, the trace ends all the same, and its file is gone."""
+    one = stage.stand_in()
+    reading, writing = os.pipe()
+    fcntl.fcntl(writing, fcntl.F_SETPIPE_SZ, 4096)
+    asker, log = traced(stage, one, "--seconds", "4", stdout=writing)
+    os.close(writing)
+    log.write_text("level=info event=came trace=1\n" * 5000)
+    hope("status", asker.wait(30), FAILED)
+    hope("the file", names_in(one.folder), [])
+    os.close(reading)
+
+
+def processes_with(text):
+    """The processes whose command line has a text."""
+    found = []
+    for path in pathlib.Path("/proc").glob("[0-9]*/cmdline"):
+        with contextlib.suppress(OSError):
+            if text.encode() in path.read_bytes() and path.parent.name != str(os.getpid()):
+                found.append(path.parent.name)
+    return found
+
+
+def nothing_of_a_query_is_left(stage):
+    """KILL at twenty moments of each query leaves no process and nothing in the folder some seconds later, and the next one is answered."""
+    one = stage.stand_in()
+    one.writes = True
+    until("counters", (one.folder / "counters").exists)
+    for word in ("state", "metrics"):
+        for at in range(20):
+            asker = stage.begin(one, word)
+            time.sleep(0.02 * at)
+            asker.kill()
+            asker.communicate(timeout=PATIENCE)
+    until("nothing is left", lambda: not processes_with(str(stage.room)), 30)
+    hope("what is left", [name for name in names_in(one.folder) if not name.startswith("counters")], [])
+    hope("the next one", stage.ask(one, "state")[0], 0)
+
+
+def tables_of(stage, one, **variables):
+    """The words of the line of the home server that `top` prints, and those of its first line."""
+    status, out, told = stage.ask(one, "top", variables=variables)
+    hope("how it ends", (status, told), (0, ""))
+    lines = out.splitlines()
+    return lines[0], next(line for line in lines if line.startswith("h1 ")).split()
+
+
+def top_reads_numbers_in_every_locale(stage):
+    """`top` reads and prints a decimal point under each locale: as in C where one is here whose point is a comma, and has hours and
+    minutes of a service that runs for some hours."""
+    one = stage.stand_in()
+    one.writes = True
+    until("counters", (one.folder / "counters").exists)
+    made = locales(stage)
+    for name in ("C", "C.UTF-8", "de_DE.UTF-8", "tr_TR.UTF-8", "none"):
+        head, words = tables_of(stage, one, LC_ALL=name, **made)
+        hope(f"{name}: head", head, "rad_proxy 0.1.0, running for 5h07m")
+        hope(f"{name}: its line", (words[:3], words[7:9], words[11:]), (["h1", "up", "5h07m"], ["17.5ms", "24.9ms"], ["1%", "never"]))
+
+
+def locales(stage):
+    """Locales that are made where the system has what they are made of; else those of the system."""
+    folder = stage.room / "locales"
+    folder.mkdir()
+    if shutil.which("localedef") is None or not pathlib.Path("/usr/share/i18n/locales/de_DE").exists():
+        return {}
+    for name in ("de_DE", "tr_TR"):
+        subprocess.run(["localedef", "-i", name, "-f", "UTF-8", str(folder / f"{name}.UTF-8")], check=True, stdout=subprocess.DEVNULL)
+    return {"LOCPATH": str(folder)}
+
+
+def what_the_caller_sets_is_not_read(stage):
+    """Modules, a home and options of Python that the caller's environment names, and a folder with such names, change nothing."""
+    one = stage.stand_in()
+    planted = stage.room / "planted"
+    planted.mkdir()
+    for name in ("os", "sys", "select", "fcntl", "calling", "controlling", "trial", "version", "sitecustomize", "usercustomize"):
+        (planted / f"{name}.py").write_text("import posix\nposix._exit(66)\n")
+    variables = {"PYTHONPATH": str(planted), "PYTHONHOME": str(planted), "PYTHONSTARTUP": str(planted / "os.py"), "HOME": str(planted),
+                 "PYTHONINSPECT": "1", "PYTHONVERBOSE": "1", "PYTHONIOENCODING": "utf-16", "COLUMNS": "1", "LC_ALL": "tr_TR.ISO-8859-9"}
+    shutil.copy(planted / "select.py", one.folder / "select.py")
+    for place in (planted, one.folder):
+        status, out, told = stage.ask(one, "state", variables=variables, cwd=place)
+        hope("state", (status, out, told), (0, f"{one.line()}\n", ""))
+    hope("caches", sorted(stage.room.glob("usr/**/__pycache__")), [])
+    hollow = stage.room / "hollow"
+    hollow.mkdir()
+    status, out, told = stage.ask(one, "state", preexec_fn=lambda: (os.chdir(hollow), os.rmdir(hollow), os.umask(0o777)))
+    hope("a folder that is gone", (status, out, told), (0, f"{one.line()}\n", ""))
+    for at in (0, 1, 2):
+        status = stage.begin(one, "state", preexec_fn=lambda: os.close(at)).wait(PATIENCE)
+        hope(f"without descriptor {at}", status, FAILED if at == 1 else 0)
+
+
+TESTS = [out_is_taken_away_where_it_is_stopped_before_the_drain, no_moment_of_a_stop_leaves_something,
+         out_is_taken_away_where_the_proxy_stalls, out_stays_where_the_proxy_drains_without_an_answer,
+         the_look_at_the_rate_ends_once_it_suffices, what_is_outstanding_counts_in_the_rate, nobody_else_keeps_root_from_a_restart,
+         who_is_not_root_locks_beside_the_fifos, a_trace_ends_where_the_service_does, no_stop_of_a_trace_leaves_the_file,
+         a_trace_whose_output_nobody_reads_ends, nothing_of_a_query_is_left, top_reads_numbers_in_every_locale,
+         what_the_caller_sets_is_not_read]
+
+
+if __name__ == "__main__":
+    heed_signals()
+    try_named(TESTS, Stage, __doc__)
