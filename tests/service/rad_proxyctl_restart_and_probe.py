@@ -568,20 +568,30 @@ def completed(room, *words):
 
 
 def bash_completes_the_words(room):
-    """bash has each word, and behind each its options, instances, folders and files; each word and option of the usage is completed."""
-    for name in ("two", "one"):
+    """bash has each word, and behind each its options, instances, folders and the files that fit; each word and option of the usage is
+    completed, and no name is evaluated."""
+    for name in ("two", "one", "$(touch planted)", "`touch planted`", "a b", "x;y"):
         shutil.copy(room.file, room.file.with_name(f"{name}.toml"))
+    for name in ("way.toml", "wayward.prom", "$(touch planted).toml", "$(touch planted).prom"):
+        shutil.copy(room.file, room.room / name)
     cases = {
         "rad_proxyctl pro": "probe", "rad_proxyctl st": "state", "rad_proxyctl --v": "--version", "rad_proxyctl -i ": "one two",
-        "rad_proxyctl -i t": "two", "rad_proxyctl -i two re": "restart", "rad_proxyctl -d u": "usr",
-        "rad_proxyctl -d usr/s": "usr/sbin usr/share", "rad_proxyctl metrics st": "start", "rad_proxyctl metrics start ": "",
-        "rad_proxyctl state ": "", "rad_proxyctl probe -": "-s -c --timeout --help", "rad_proxyctl probe -c wa": "way",
+        "rad_proxyctl -i t": "two", "rad_proxyctl -i two re": "restart", "rad_proxyctl -d u": "usr", "rad_proxyctl -d wa": "",
+        "rad_proxyctl -d usr/s": "usr/sbin usr/share", "rad_proxyctl metrics wa": "wayward.prom", "rad_proxyctl metrics st": "",
+        "rad_proxyctl metrics start ": "", "rad_proxyctl metrics e": "etc",
+        "rad_proxyctl state ": "", "rad_proxyctl probe -": "-s -c --timeout --help", "rad_proxyctl probe -c wa": "way.toml",
         "rad_proxyctl probe -s ": "", "rad_proxyctl restart --f": "--force", "rad_proxyctl restart --wait ": "",
-        "rad_proxyctl restart -c wa": "way", "rad_proxyctl check wa": "way", "rad_proxyctl check --s": "--strict",
-        "rad_proxy ": "run check replay", "rad_proxy check wa": "way", "rad_proxy replay ": "",
+        "rad_proxyctl restart --force --": "--wait --out --help", "rad_proxyctl restart -c wa": "way.toml",
+        "rad_proxyctl trace --user bob --user": "--user", "rad_proxyctl trace --user ": "",
+        "rad_proxyctl check wa": "way.toml", "rad_proxyctl check --s": "--strict", "rad_proxyctl check --strict wa": "way.toml",
+        "rad_proxyctl check way.toml ": "--strict --help", "rad_proxyctl check --strict --": "--help",
+        "rad_proxy ": "run check replay", "rad_proxy check wa": "way.toml", "rad_proxy replay ": "",
     }
     for words, wanted in cases.items():
         hope(words, sorted(completed(room, *words.split(" "))), sorted(wanted.split()))
+    for words in ("rad_proxyctl -i $", "rad_proxyctl -i ", "rad_proxyctl check $", "rad_proxyctl metrics $", "rad_proxyctl -d $", "rad_proxyctl $"):
+        completed(room, *words.split(" "))
+    hope("what a name evaluated", list(room.room.glob("**/planted")), [])
     usage = room.ask("--help").stdout.split("\n\n")[0]
     lines = [re.sub(r"\b[A-Z:]+\b", "", line).split("rad_proxyctl", 1)[1] for line in usage.splitlines()]
     known = {word for line in lines for word in re.findall(r"(?:--?)?[a-z]+", line)}
