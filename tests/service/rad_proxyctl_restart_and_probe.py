@@ -12,11 +12,12 @@ import shutil
 import signal
 import socket
 import subprocess
+import sys
 import threading
 import time
 
 from tests.lib import (ACCT_SESSION_ID, HERE, HOME_SECRET, NAS_SECRET, STATUS_SERVER, TOP, LeftOut, Server, answer, answered, attribute,
-                       bound, configured, environment, free_port, hope, is_right_status, is_so, need, packet, read, request_of_nas,
+                       best, bound, configured, environment, free_port, hope, is_right_status, is_so, need, packet, read, request_of_nas,
                        try_named, until)
 
 PATIENCE = 60
@@ -231,6 +232,53 @@ class Status:
         self.ear.close()
 
 
+def three_datagrams_come_soon(room):
+    """Three datagrams come 0.2 seconds apart, and then one a second; where the first two are lost the third is answered within a second."""
+    right = lambda octets, count: [answer(octets, octets[1], b"", NAS_SECRET)] if count == 3 else []
+    moments = []
+
+    def noted(octets, count):
+        moments.append(time.monotonic())
+        return right(octets, count)
+
+    def tried():
+        moments.clear()
+        status, said, came = probed(room, noted, "1")
+        hope("the first two are lost", (status, said, len(came)), (0, "answer from PLACE in TIME\n", 3))
+        return moments[2] - moments[0]
+
+    best(tried, lambda seconds: 0.3 < seconds < 0.6)
+    moments.clear()
+    status, _, came = probed(room, lambda octets, count: moments.append(time.monotonic()) or [], "2.7")
+    hope("without an answer", (status, len(came)), (1, 5))
+    apart = [round(after - before, 1) for before, after in zip(moments, moments[1:])]
+    hope("seconds apart", [0.1 < each < 0.5 for each in apart[:2]] + [0.7 < each < 1.4 for each in apart[2:]], 4 * [True])
+
+
+# Sends datagrams that are none to a port, some thousand a second, until it is killed.
+LOAD = """
+import socket, sys, time
+with socket.socket(socket.AF_INET, socket.SOCK_DGRAM) as made:
+    made.connect(("127.0.0.1", int(sys.argv[1])))
+    while True:
+        for _ in range(20):
+            made.send(bytes(60))
+        time.sleep(0.01)
+"""
+
+
+def strangers_do_not_fail_a_check(room):
+    """Beside a stranger who sends some thousand datagrams a second, of ten checks with a second each no two in a row fail."""
+    room.start()
+    load = subprocess.Popen([sys.executable, "-c", LOAD, str(room.port)])
+    try:
+        statuses = [room.ask("probe", "--timeout", "1").returncode for _ in range(10)]
+    finally:
+        load.kill()
+        load.wait()
+    need((1, 1) not in zip(statuses, statuses[1:]), "statuses:", statuses)
+
+
 def probed(room, answers, seconds="0.7"):
     """How a probe ends and what it says, and what came."""
     with Status(answers) as proxy:
@@ -269,8 +317,8 @@ def probe_takes_no_other_answer(room):
         }
 
     for name in wrong(bytes(20)):
-        status, said, _ = probed(room, lambda octets, _: [wrong(octets)[name]])
-        told = "rad_proxyctl: no answer from PLACE in 0.7 seconds, but 3 datagrams that are no answer: look at the secret\n"
+        status, said, came = probed(room, lambda octets, count: [wrong(octets)[name]] if count == 1 else [])
+        told = "rad_proxyctl: no answer from PLACE in 0.7 seconds, but 1 datagrams that are no answer: look at the secret\n"
         hope(name, (status, said), (1, told))
     status, _, _ = probed(room, lambda octets, _: [*wrong(octets).values(), answer(octets, octets[1], b"", NAS_SECRET) + b"more"])
     hope("a right one behind them", status, 0)
@@ -633,7 +681,8 @@ def check_prints_what_is_wrong_and_doubtful(room):
 
 TESTS = [
     bash_completes_the_words, check_prints_what_is_wrong_and_doubtful,
-    words_are_told_apart, relative_paths_hold, probe_sends_a_status_server, probe_takes_no_other_answer, probe_says_what_is_wrong_here,
+    words_are_told_apart, relative_paths_hold, probe_sends_a_status_server, three_datagrams_come_soon, strangers_do_not_fail_a_check,
+    probe_takes_no_other_answer, probe_says_what_is_wrong_here,
     probe_of_a_proxy, a_restart_loses_nothing, waits_and_says_what_is_left, restarts_when_the_time_is_over,
     refuses_while_a_home_server_is_down, refuses_where_the_rate_is_too_low, a_wrong_configuration_drains_nothing,
     root_has_the_owner_check, one_restarts_it_at_a_time, whoever_restarts_it_meanwhile_ends_it, a_check_sees_it_go,

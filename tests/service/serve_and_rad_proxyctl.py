@@ -574,6 +574,82 @@ def metrics_go_to_no_other_file(service):
     hope("what is left", (os.listdir(folder), file.read_text()), ([file.name], "# HELP rad_proxy_old\n"))
 
 
+def changed(service, name, *pairs):
+    """Changes texts of an installed module of rad_proxyctl, each of which stands there once."""
+    path = service.room / "usr/libexec/rad_proxy/controlling" / name
+    text = path.read_text()
+    for old, new in pairs:
+        hope(f"how often {name} has {old!r}", text.count(old), 1)
+        text = text.replace(old, new)
+    path.write_text(text)
+
+
+def look_of(path):
+    """What a file is, and what it has, also where it is a link."""
+    it = path.lstat()
+    has = os.readlink(path) if path.is_symlink() else path.read_bytes() if path.is_file() else None
+    return it.st_ino, it.st_mode, it.st_size, it.st_mtime_ns, has
+
+
+def metrics_replace_nobody_elses_file(service):
+    """`metrics FILE` leaves each file alone that is neither empty nor its own, each link, folder, fifo and device, and names it as a fault,
+    whether a proxy answers or not; an empty file and its own ones are replaced, and removed where none answers."""
+    folder = service.room / "files"
+    folder.mkdir()
+    contents = {"rad_proxy.toml": service.file.read_bytes(), "other.prom": b"# HELP node_load1 1\n", "short": b"# HELP rad_proxy", "text": b"a",
+                "behind": b"\n# HELP rad_proxy_x y\n", "nothing": bytes(100)}
+    for name, octets in contents.items():
+        (folder / name).write_bytes(octets)
+    (folder / "own.prom").write_bytes(b"# HELP rad_proxy_x y\n")
+    for name, target in (("link", "own.prom"), ("broken", "nowhere"), ("loop", "loop"), ("to-empty", "/dev/null")):
+        (folder / name).symlink_to(target)
+    (folder / "folder").mkdir()
+    os.mkfifo(folder / "fifo")
+    another = f"is another one's: it does not begin with # HELP rad_proxy_"
+    kept = {folder / name: another for name in contents}
+    kept |= {folder / name: "is no regular file" for name in ("link", "broken", "loop", "to-empty", "folder", "fifo")}
+    kept[pathlib.Path("/dev/full")] = "is no regular file"
+
+    def see_kept(text):
+        for path, told in kept.items():
+            before = look_of(path)
+            done = service.ask("metrics", str(path))
+            hope(f"{text}: {path}", (done.returncode, done.stdout, done.stderr), (4, "", f"rad_proxyctl: {path} {told}\n"))
+            hope(f"{text}: {path}", look_of(path), before)
+        hope(f"{text}: names", sorted(os.listdir(folder)), names)
+
+    names = sorted(os.listdir(folder))
+    see_kept("nobody answers")
+    for octets in (b"", b"# HELP rad_proxy_x y\n"):
+        (folder / "mine").write_bytes(octets)
+        done = service.ask("metrics", str(folder / "mine"))
+        hope("its own where nobody answers", (done.returncode, (folder / "mine").exists()), (4, False))
+    service.start()
+    until("counters", (service.run / "counters").exists)
+    see_kept("a proxy answers")
+    for octets in (b"", b"# HELP rad_proxy_x y\n"):
+        (folder / "mine").write_bytes(octets)
+        done = service.ask("metrics", str(folder / "mine"))
+        hope("its own", (done.returncode, done.stderr, (folder / "mine").read_text().count("\nrad_proxy_home_up{")), (0, "", 1))
+        (folder / "mine").unlink()
+
+
+def no_stop_of_metrics_leaves_a_file(service):
+    """HUP, INT and TERM at any moment of `metrics FILE` leave no new file beside FILE, also where the disk is slow."""
+    service.start()
+    until("counters", (service.run / "counters").exists)
+    folder = service.room / "files"
+    folder.mkdir()
+    changed(service, "metrics.py", ("            os.rename(new, file)\n", "            __import__('time').sleep(0.5)\n            os.rename(new, file)\n"))
+    for number in (signal.SIGHUP, signal.SIGINT, signal.SIGTERM):
+        asker = subprocess.Popen([service.ctl, "metrics", folder / "mine"], env=service.environment, preexec_fn=heed_signals)
+        until("the new file", lambda: os.listdir(folder))
+        asker.send_signal(number)
+        hope("status", asker.wait(PATIENCE) in (0, -number), True)
+        hope("what is there", os.listdir(folder), ["mine"])
+        (folder / "mine").unlink()
+
+
 def scraped(service, octets, is_closed=False):
     """The status line, the head and the text of the response to a request of HTTP."""
     ours, theirs = socket.socketpair()
@@ -765,16 +841,6 @@ def an_answer_that_cannot_be_written_is_told(service):
         done = subprocess.run(["sh", "-c", f'"$0" {words}', service.ctl], env=service.environment, capture_output=True,
                               text=True, timeout=PATIENCE)
         hope(words, (done.returncode, done.stderr), (4, "rad_proxyctl: cannot write the answer\n"))
-
-
-def changed(service, name, *pairs):
-    """Changes texts of an installed module of rad_proxyctl, each of which stands there once."""
-    path = service.room / "usr/libexec/rad_proxy/controlling" / name
-    text = path.read_text()
-    for old, new in pairs:
-        hope(f"how often {name} has {old!r}", text.count(old), 1)
-        text = text.replace(old, new)
-    path.write_text(text)
 
 
 def whoever_keeps_the_pipe_is_not_waited_for(service):
@@ -1097,7 +1163,8 @@ TESTS = [
     a_hand_over_that_dies_is_started_anew, nobody_reads_its_output, its_output_is_full, what_is_left_over_is_a_warning,
     counters_elsewhere_are_told, the_ledger_is_where_the_variable_says, counters_that_cannot_be_written_are_told, counters_that_are_not_written_are_told,
     metrics_are_as_prometheus_reads_them, metrics_go_to_a_file,
-    top_draws_what_is_there, top_draws_a_table_as_soon_as_its_numbers_are_there, top_of_no_proxy_ends, metrics_of_no_proxy_are_removed, metrics_go_to_no_other_file, metrics_are_had_by_http, http_waits_for_no_client, each_panel_of_the_dashboard_draws, sent_again_is_never_less_than_nothing, counters_that_are_written_late_are_waited_for,
+    top_draws_what_is_there, top_draws_a_table_as_soon_as_its_numbers_are_there, top_of_no_proxy_ends, metrics_of_no_proxy_are_removed, metrics_go_to_no_other_file,
+    metrics_replace_nobody_elses_file, no_stop_of_metrics_leaves_a_file, metrics_are_had_by_http, http_waits_for_no_client, each_panel_of_the_dashboard_draws, sent_again_is_never_less_than_nothing, counters_that_are_written_late_are_waited_for,
     memory_is_refused_and_nothing_ends, relative_paths_hold, an_answer_that_cannot_be_written_is_told,
     whoever_keeps_the_pipe_is_not_waited_for, the_unit_takes_no_core_dump, root_asks_as_the_owner,
     the_owner_gets_nothing_of_roots, the_owner_has_its_groups, no_answer_costs_more_than_the_bounds, the_largest_answers_are_whole, a_purge_leaves_no_link,
