@@ -185,7 +185,8 @@ install-proxy:
 	install -m 755 $(AUDITOR) $(DESTDIR)$(BINDIR)/rad_audit
 	sed $(FOLDERS) packaging/serve.in > $(DESTDIR)$(LIBEXECDIR)/rad_proxy/serve
 	chmod 755 $(DESTDIR)$(LIBEXECDIR)/rad_proxy/serve
-	for file in $(CONTROL); do install -D -m 644 tools/$$file $(DESTDIR)$(LIBEXECDIR)/rad_proxy/$$file || exit 1; done
+	install -d $(DESTDIR)$(LIBEXECDIR)/rad_proxy/controlling $(DESTDIR)$(LIBEXECDIR)/rad_proxy/trial
+	for file in $(CONTROL); do install -m 644 tools/$$file $(DESTDIR)$(LIBEXECDIR)/rad_proxy/$$file || exit 1; done
 	sed $(FOLDERS) packaging/places.py.in > $(DESTDIR)$(LIBEXECDIR)/rad_proxy/controlling/places.py
 	chmod 644 $(DESTDIR)$(LIBEXECDIR)/rad_proxy/controlling/places.py
 	install -m 755 tools/rad_proxyctl $(DESTDIR)$(LIBEXECDIR)/rad_proxy

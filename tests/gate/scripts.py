@@ -82,6 +82,8 @@ SCRIPTS = [
     Script("service/first_run"),
     Script("ledger/auditor_verdicts", AUDITOR),
     Script("service/rad_proxyctl_restart_and_probe"),
+    Script("service/rad_proxyctl_stand_in"),
+    Script("service/rad_proxyctl_http"),
     Script("tools/resend"),
     Script("tools/ledger"),
     Script("ledger/rows", AUDITOR),
