@@ -112,10 +112,10 @@ def each_request_has_its_answer(stage):
     """A GET of /metrics or / has the metrics, also of one that sends no more; what else is asked a status that says why not."""
     stage.see_scraped()
     for octets, status in ((b"GET / HTTP/1.0\r\n\r\n", "200 OK"), (b"GET /other HTTP/1.1\r\n\r\n", "404 Not Found"),
-                           (b"GET / HTTP/2.0\n\n", "404 Not Found"), (b"POST /metrics HTTP/1.1\r\nContent-Length: 3\r\n\r\nabc",
+                           (b"GET / HTTP/2.0\n\n", "505 HTTP Version Not Supported"), (b"POST /metrics HTTP/1.1\r\nContent-Length: 3\r\n\r\nabc",
                                                                       "405 Method Not Allowed"),
-                           (b"HEAD / HTTP/1.0\r\n\r\n", "405 Method Not Allowed"), (b"\r\n\r\n", "405 Method Not Allowed"),
-                           (bytes(range(256)) + b"\n\n", "405 Method Not Allowed"), (b"X" * 20_000, "400 Bad Request")):
+                           (b"HEAD / HTTP/1.0\r\n\r\n", "405 Method Not Allowed"), (b"\r\n\r\n", "400 Bad Request"),
+                           (bytes(range(256)) + b"\n\n", "400 Bad Request"), (b"X" * 20_000, "400 Bad Request")):
         hope(str(octets[:40]), stage.had(octets)[0].partition("\r\n")[0], f"HTTP/1.1 {status}")
     hope("one that sends no more", stage.had(is_closed=True)[0].partition("\r\n")[0], "HTTP/1.1 200 OK")
     hope("one that sends nothing", stage.had(b"", True)[0].partition("\r\n")[0], "HTTP/1.1 400 Bad Request")

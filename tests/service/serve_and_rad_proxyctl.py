@@ -678,9 +678,9 @@ def metrics_are_had_by_http(service):
         hope(path, (first, fields["Content-Type"]), ("HTTP/1.1 200 OK", "text/plain; version=0.0.4; charset=utf-8"))
         names = (re.findall(r"^[a-z#].*(?= )", each, re.M) for each in (text, service.ask("metrics").stdout))
         hope("names", *names)
-    for octets, status in ((b"GET /other HTTP/1.1\r\n\r\n", "404 Not Found"), (b"GET / HTTP/2.0\n\n", "404 Not Found"),
+    for octets, status in ((b"GET /other HTTP/1.1\r\n\r\n", "404 Not Found"), (b"GET / HTTP/2.0\n\n", "505 HTTP Version Not Supported"),
                            (b"POST /metrics HTTP/1.1\r\nContent-Length: 0\r\n\r\n", "405 Method Not Allowed"),
-                           (b"HEAD / HTTP/1.0\r\n\r\n", "405 Method Not Allowed"), (b"\r\n\r\n", "405 Method Not Allowed")):
+                           (b"HEAD / HTTP/1.0\r\n\r\n", "405 Method Not Allowed"), (b"\r\n\r\n", "400 Bad Request")):
         hope(str(octets), scraped(service, octets)[0], f"HTTP/1.1 {status}")
     for octets in (b"", b"GET /metrics HTTP/1.1\r\n", b"GET /metrics HTTP/1.1\r\n" + 200 * b"X: y\r\n"):
         hope(str(octets[:40]), scraped(service, octets, is_closed=True)[0], "HTTP/1.1 400 Bad Request")

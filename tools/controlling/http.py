@@ -16,7 +16,7 @@ from trial.faults import Fault
 from . import bounds
 from .output import write_all
 from .processes import Process, bounded, given_environment
-from .requests import INCOMPLETE, LONGEST_HEAD, REQUEST_SECONDS, RESPONSE_SECONDS, first_line, refusal_of, response_of
+from .requests import INCOMPLETE, LONGEST_HEAD, REQUEST_SECONDS, RESPONSE_SECONDS, is_whole, metrics_by, refusal_of
 
 PROGRAM = os.path.join(os.path.dirname(os.path.dirname(os.path.realpath(__file__))), "rad_proxyctl")
 # The first descriptor that systemd passes; how many connections there are at once, and how many octets of each the system keeps; how long
@@ -47,7 +47,7 @@ class Asking:
     def response(self):
         """What is answered, once that was the end."""
         self.process.close_output()
-        return response_of(bytes(self.octets), self.process.wait())
+        return metrics_by(bytes(self.octets), self.process.wait())
 
 
 def ask(folder):
@@ -76,12 +76,11 @@ class Connection:
         return 0 if self.is_reading() or self.is_over else 2 if self.is_waiting else 1
 
     def read(self):
-        """Reads on: the first line of the request, once it is there; empty octets for one that does not come any more, and else None."""
+        """Reads on: the head of the request, once it is there; empty octets for one that does not come any more, and else None."""
         part = self.socket.recv(LONGEST_HEAD)
         self.octets += part
-        line = first_line(self.octets)
-        if line is not None:
-            return line or b"?"
+        if is_whole(self.octets):
+            return self.octets
         return b"" if not part or len(self.octets) > LONGEST_HEAD else None
 
     def respond(self, octets):
@@ -137,10 +136,10 @@ class Server:
         one.respond(octets)
 
     def read(self, one):
-        line = one.read()
-        if line is None:
+        head = one.read()
+        if head is None:
             return
-        refusal = refusal_of(line) if line else INCOMPLETE
+        refusal = refusal_of(head) if head else INCOMPLETE
         if refusal is not None:
             self.respond(one, refusal)
             return
@@ -206,16 +205,17 @@ class Server:
             self.look_at_times()
 
 
-def request_line():
-    """The first line of the request on standard input, or None where it does not come in time."""
+def request_head():
+    """The head of the request on standard input, or None where it does not come in time."""
     until, octets = time.monotonic() + REQUEST_SECONDS, b""
     try:
         while len(octets) <= LONGEST_HEAD and select.select([0], [], [], max(until - time.monotonic(), 0))[0]:
             part = os.read(0, LONGEST_HEAD)
             octets += part
-            line = first_line(octets)
-            if line is not None or not part:
-                return line
+            if is_whole(octets):
+                return octets
+            if not part:
+                break
     except OSError:
         pass
     return None
@@ -223,8 +223,8 @@ def request_line():
 
 def answer_one(folder):
     """Answers the request on standard input on standard output."""
-    line = request_line()
-    refusal = INCOMPLETE if line is None else refusal_of(line)
+    head = request_head()
+    refusal = INCOMPLETE if head is None else refusal_of(head)
     told = refusal if refusal is not None else ask(folder)
     try:
         write_all(1, told, time.monotonic() + RESPONSE_SECONDS)
