@@ -32,7 +32,7 @@ class Trial(trying.Trial):
     """The program, and what it tells."""
 
     def run(self):
-        for part in (faulty, unread, many, homes, files, sockets):
+        for part in (faulty, unread, many, misplaced, homes, files, sockets):
             part(self, self.folder)
 
     def ended(self, *words, log=None, given=b""):
@@ -95,11 +95,11 @@ def unread(trial, folder):
         ("realms", configuration(f"{HERE}:{port}", more="[[realms]]\nname = 1\n"),
          line("warn", "unread-key", "top realms at line 13, column 3")),
         ("a table", configuration(f"{HERE}:{port}", more="  [ home . more ]\nwindow = 1\n"),
-         line("warn", "unread-key", "home 0 more at line 13, column 12")),
+         line("warn", "unread-key", "home 0 a key at line 13, column 12")),
         ("a name with control characters", configuration(f"{HERE}:{port}", more='"\\u001b[2J\\n\\"" = 1\n'),
-         line("warn", "unread-key", "home 0 %1b[2J%0a%22 at line 13, column 1")),
+         line("warn", "unread-key", "home 0 a key at line 13, column 1")),
         ("in no order", configuration(f"{HERE}:{port}", top="zz = 1\naa = 2\n"),
-         line("warn", "unread-key", "top aa at line 4, column 1") + line("warn", "unread-key", "top zz at line 3, column 1")),
+         line("warn", "unread-key", "top a key at line 4, column 1") + line("warn", "unread-key", "top a key at line 3, column 1")),
         ("none", configuration(f"{HERE}:{port}", more="window = 3\n"), ""),
     ]
     for name, text, told in cases:
@@ -131,9 +131,50 @@ def many(trial, folder):
     told = told.splitlines()
     trial.compare("many keys are read past", (status, printed), (0, COUNTS))
     trial.compare("many keys make few lines", len(told), 21)
-    trial.compare("the first of many", told[:1], [line("warn", "unread-key", "home 0 k000000 at line 13, column 1")[:-1]])
+    trial.compare("the first of many", told[:1], [line("warn", "unread-key", "home 0 a key at line 13, column 1")[:-1]])
     trial.compare("the last of many", told[-1:], [f"level=warn event=unread-keys count={count - 20}"])
     trial.compare("many keys take no minute", spent < PATIENCE / 2, True)
+
+
+def misplacements(port):
+    """Texts of configurations in which a secret stands in a wrong place, each with what the place is, and with the secret."""
+    for secret in ("s3cr3t-of-billing", "s3cr3t of b!lling", "S3CR3T.0F.4NY0NE"):
+        whole = configuration(f"127.0.0.1:{port}").decode()
+        for name, old in (("listen", f"127.0.0.1:{port}"), ("a client's address", "192.0.2.1"), ("a home server's address", "192.0.2.9:1813")):
+            yield name, whole.replace(f'"{old}"', f'"{secret}"'), secret
+        yield "a realm's name", whole.replace("example.org", f"{secret}@"), secret
+        yield "a home server's name", whole.replace('name = "h1"', f'name = "{secret}@"'), secret
+        yield "two home servers' name", whole.replace('"h1"', f'"{secret}"') + whole[whole.index("[[home]]"):].replace('"h1"', f'"{secret}"'), secret
+        yield "two realms' name", whole.replace("example.org", secret) + f'[[realm]]\nname = "{secret.swapcase()}"\nhome = "h1"\n', secret
+        yield "a realm's home", whole.replace('home = "h1"', f'home = "{secret}"'), secret
+        yield "default_home", f'default_home = "{secret}"\n' + whole, secret
+        yield "linger", whole.replace("linger = 0", f'linger = "{secret}"'), secret
+        yield "window", whole + f'window = "{secret}"\n', secret
+        yield "client", whole.replace("[[client]]", f'client = "{secret}"\n[[clients]]'), secret
+        yield "no quotation marks", whole.replace('"home-secret"', secret), secret
+        yield "two secrets", whole.replace('"home-secret"', f'"home-secret" "{secret}"'), secret
+        yield "a string that is not closed", whole.replace('"home-secret"', f'"{secret}'), secret
+        yield "a key twice", whole + f'"{secret}" = 1\n"{secret}" = 2\n', secret
+        for part in ("client", "realm", "home"):
+            yield f"a key of a {part}", whole.replace(f"[[{part}]]", f'[[{part}]]\n"{secret}" = 1'), secret
+        yield "a key of the top", f'"{secret}" = 1\n' + whole, secret
+        yield "a dotted key", whole + f'"{secret}".x = 1\n', secret
+        yield "a header", whole + f'["{secret}"]\n', secret
+        if " " not in secret:
+            yield "a bare key", whole + f"{secret} = 1\n", secret
+
+
+def misplaced(trial, folder):
+    """A secret that stands in a wrong place is in no line, whatever is logged."""
+    file, port = folder / "misplaced.toml", free_port()
+    for place, text, secret in misplacements(port):
+        file.write_text(text)
+        for level in (None, "off", "error", "warn", "info", "debug", "trace"):
+            for command in ("check", "run"):
+                _, printed, told = trial.ended(command, file, log=level)
+                seen = secret.casefold() in f"{printed}{told}".casefold() or re.sub("[^a-z0-9]+", "", secret.casefold()) in re.sub(
+                    "%20|%21|[^a-z0-9]+", "", f"{printed}{told}".casefold())
+                trial.compare(f"{place}: {command} {level} {secret}", seen, False)
 
 
 def homes(trial, folder):

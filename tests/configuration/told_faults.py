@@ -88,34 +88,47 @@ name = "Example.ORG"
 """
 FAULTS_CARRIED_OVER = [
     "BadAddress at top listen at line 1, column 1: 0.0.0.0: the port is missing",
-    "BadAddress at client 0 address at line 5, column 1: 10.2.0.0/16 is a block: one [[client]] for each address",
-    "BadAddress at client 1 address at line 9, column 1: nas-7.example.org is a host name, not an address",
-    "BadAddress at client 2 address at line 13, column 1: 2001:db8::7 is IPv6: IPv4 alone is served",
-    "BadAddress at client 3 address at line 17, column 1: 10.3.0.1:1813 has a port: a client has none",
+    "BadAddress at client 0 address at line 5, column 1: 10.2.0.0/16: it is a block: one [[client]] for each address",
+    "BadAddress at client 1 address at line 9, column 1: it is a host name, not an address",
+    "BadAddress at client 2 address at line 13, column 1: it is IPv6: IPv4 alone is served",
+    "BadAddress at client 3 address at line 17, column 1: 10.3.0.1:1813: it has a port: a client has none",
     "BadAddress at client 4 address at line 21, column 1: 10.3.0.001: four numbers from 0 to 255, joined by dots, none with a 0 before it",
     "OutOfRange at client 5 secret at line 26, column 1: 1 to 128 octets",
     "DoubleName at client 6 address at line 29, column 1: 10.4.0.1: the first one is at line 25",
     "Missing at client 6 secret at line 28, column 3: it is needed",
-    "OutOfRange at home 0 name at line 32, column 1: billing%201: 1 to 64 letters, digits, -, _ and .",
-    "BadAddress at home 0 address at line 33, column 1: radius.example.org is a host name, not an address",
+    "OutOfRange at home 0 name at line 32, column 1: 1 to 64 letters, digits, -, _ and .",
+    "BadAddress at home 0 address at line 33, column 1: it is a host name, not an address",
     "WrongType at home 0 secret at line 34, column 1: a text in quotation marks",
     "OutOfRange at home 0 window at line 35, column 1: 512: 1 to 256 x ports - 2",
     "BadAddress at home 1 address at line 39, column 1: 198.51.100.20: the port is missing",
-    "WrongType at home 1 first_wait at line 41, column 1: 2s: a whole number without quotation marks",
-    "DoubleName at home 2 name at line 44, column 1: partner: the first one is at line 38",
-    "BadAddress at home 2 address at line 45, column 1: [2001:db8::9]:1813 is IPv6: IPv4 alone is served",
-    "BadAddress at home 3 address at line 50, column 1: 10.9.0.0/24:1813 is a block, not an address and port",
+    "WrongType at home 1 first_wait at line 41, column 1: a whole number without quotation marks",
+    "DoubleName at home 2 name at line 44, column 1: the first one is at line 38",
+    "BadAddress at home 2 address at line 45, column 1: it is IPv6: IPv4 alone is served",
+    "BadAddress at home 3 address at line 50, column 1: 10.9.0.0/24:1813: it is a block, not an address and port",
     "BadAddress at home 4 address at line 55, column 1: 198.51.100.21:0: an address and a port from 1 to 65535, as in 192.0.2.1:1813",
-    "UnknownHome at realm 0 home at line 60, column 1: biling: no [[home]] has this name",
-    "OutOfRange at realm 1 name at line 63, column 1: bob@example.net: 1 to 252 octets, none of them @",
-    "DoubleName at realm 2 name at line 67, column 1: Example.ORG: the first one is at line 59",
+    "UnknownHome at realm 0 home at line 60, column 1: no [[home]] has this name",
+    "OutOfRange at realm 1 name at line 63, column 1: 1 to 252 octets, none of them @",
+    "DoubleName at realm 2 name at line 67, column 1: the first one is at line 59",
     "Missing at realm 2 home at line 66, column 3: it is needed",
-    "UnknownHome at top default_home at line 2, column 1: billing: no [[home]] has this name",
+    "UnknownHome at top default_home at line 2, column 1: no [[home]] has this name",
 ]
 # The numbers of a home server beyond their ranges, each with the range.
 NUMBERS = {"ports": (5, "1 to 4"), "window": (300, "1 to 256 x ports - 2"), "queue": (65537, "1 to 65536"), "book": (0, "1 to 1000000"),
            "tries": (11, "1 to 10"), "first_wait": (2, "100 to 60000"), "probe_every": (10, "1000 to 600000"),
            "down_wait": (60, "1000 to 3600000"), "span": (600001, "0 to 600000"), "ring": (5000, "1 to 4096")}
+# Values of an address, each with its fault, and with what is told behind the place: the value is told if it has digits, `.`, `:` and `/`
+# alone, since it may be a secret.
+FOUR, TEXT = ": four numbers from 0 to 255, joined by dots, none with a 0 before it", ": a text in quotation marks"
+BAD, WRONG = "BadAddress", "WrongType"
+VALUES = {'""': (BAD, f": {FOUR}"), '"0"': (BAD, f": 0{FOUR}"), '"10.0.0.256"': (BAD, f": 10.0.0.256{FOUR}"),
+          '"0123456789./:"': (BAD, ": 0123456789./:: it is a block: one [[client]] for each address"),
+          '"1::2"': (BAD, ": 1::2: it is IPv6: IPv4 alone is served"), '"10.0.0.1-"': (BAD, FOUR), '"10.0.0.1;"': (BAD, FOUR),
+          '"10.0.0.1 "': (BAD, FOUR), '"10,0.0.1"': (BAD, FOUR), '"\u0661"': (BAD, FOUR),
+          '"10.0.0.1/x"': (BAD, ": it is a block: one [[client]] for each address"),
+          '"a::"': (BAD, ": it is IPv6: IPv4 alone is served"), '"a:1"': (BAD, ": it has a port: a client has none"),
+          '"x"': (BAD, ": it is a host name, not an address"), "12345678": (WRONG, f": 12345678{TEXT}"), "-12345678": (WRONG, TEXT),
+          "1.5": (WRONG, TEXT), "true": (WRONG, TEXT), '["x"]': (WRONG, TEXT), "1979-05-27": (WRONG, TEXT),
+          f'"{"1" * 64}"': (BAD, f": {'1' * 64}{FOUR}"), f'"{"1" * 65}"': (BAD, f": {'1' * 64}..{FOUR}")}
 # A secret below 8 octets is hardly meant, so these have more.
 INLINE = 'client = [ { address = "10.0.0.1", secret = "long enough" }, { secret = "long enough" } ]\n'
 
@@ -141,10 +154,16 @@ def faults():
     for key, (number, hint) in NUMBERS.items():
         yield key, LISTEN + CLIENT + HOME + f"{key} = {number}\n" + REALM, [
             f"OutOfRange at home 0 {key} at line 9, column 1: {number}: {hint}"]
+    for value, told in VALUES.items():
+        yield f"an address {value}", LISTEN + f"[[client]]\naddress = {value}\nsecret = \"long enough\"\n" + HOME + REALM, [
+            f"{told[0]} at client 0 address at line 3, column 1{told[1]}"]
+    for number in (-1, -9223372036854775808):
+        yield f"{number}", LISTEN + CLIENT + HOME + f"queue = {number}\n" + REALM, [
+            "OutOfRange at home 0 queue at line 9, column 1: 1 to 65536"]
     for count in (MOST, MOST + 1, 3 * MOST):
         text = LISTEN + CLIENT + HOME + lines(f'[[realm]]\nname = "r{n}"\nhome = "h{n + 2}"' for n in range(count))
         yield f"{count} faults", text, [
-            f"UnknownHome at realm {n} home at line {11 + 3 * n}, column 1: h{n + 2}: no [[home]] has this name" for n in range(count)]
+            f"UnknownHome at realm {n} home at line {11 + 3 * n}, column 1: no [[home]] has this name" for n in range(count)]
 
 
 def told_faults():

@@ -356,7 +356,7 @@ def starts_a_line_after_a_part_of_one(trial):
 
 # What two lines become, by how many octets each write of them takes. A line that is lost is counted before the next one, and at once
 # where that may be written.
-FIRST, SECOND = (f'level=warn event=unread-key reason="top {key} at line {line}, column 1"\n' for line, key in ((2, "a"), (3, "b")))
+FIRST, SECOND = (f'level=warn event=unread-key reason="top a key at line {line}, column 1"\n' for line in (2, 3))
 LOST = "level=warn event=lines-dropped count={}\n"
 PARTS = {
     # parts of lines are in order

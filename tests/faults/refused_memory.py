@@ -153,7 +153,7 @@ secret = "s"
 [home.limits]
 window = 1
 """
-    places = ["top top at line 2, column 1", "client 0 name at line 6, column 1", "home 0 limits at line 11, column 7"]
+    places = ["top a key at line 2, column 1", "client 0 a key at line 6, column 1", "home 0 a key at line 11, column 7"]
     unread = [reason("warn", "unread-key", place) for place in places]
     loop = reason("warn", "home-address", "home h1 at 127.0.0.1:1813: listen serves it, so requests would come back")
     doubts = [reason("warn", "no-realm", "top realm: no realm and no default_home, so each request is dropped"),
@@ -170,8 +170,8 @@ address = "h:1"
 secret = "long enough"
 """
     faults = [reason("error", "configuration-fault", f"BadAddress at {place}") for place in (
-        "client 0 address at line 3, column 1: 10.0.0.0/16 is a block: one [[client]] for each address",
-        "home 0 address at line 7, column 1: h:1 is a host name, not an address")]
+        "client 0 address at line 3, column 1: 10.0.0.0/16: it is a block: one [[client]] for each address",
+        "home 0 address at line 7, column 1: it is a host name, not an address")]
     texts = {
         "warned": (warned, (0, ["clients 1 homes 1 realms 0"], []), [sum(each, []) for each in product(([], unread), ([], doubts), ([], [loop]))]),
         "faulty": (faulty, (2, [], ["configuration: BadAddress at client 0 address"]), [[], faults]),

@@ -1,3 +1,4 @@
+mod Distances
 mod Listed
 mod Items
 mod LastLines

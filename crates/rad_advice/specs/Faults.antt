@@ -1,5 +1,5 @@
--- What is told of each fault of a configuration (own): the value, unless it is a secret, and a hint.
-use Rattle.std.specs.Prelude.{ℕ, nat_le, Bool, true, false, not, ◌==◌, List, [], ◌++◌, length, map, filter, codes, Option, Some, None, option_and_then, IfSome, string_bytes, if◌then◌else◌}
+-- What is told of each fault of a configuration (own): the value, if it can be no secret, and a hint.
+use Rattle.std.specs.Prelude.{ℕ, nat_le, int_lt, pos, Bool, true, false, not, ◌==◌, List, [], ◌++◌, length, map, filter, codes, Option, Some, None, option_and_then, IfSome, string_bytes, if◌then◌else◌}
 use Rattle.std.specs.List.{list_any}
 use Rattle.std.specs.Char.{is_ascii_alphabetic}
 use Rattle.std.specs.Fmt.{signed_decimal, decimal}
@@ -20,6 +20,7 @@ use Rattle.rad_advice.specs.declared.faults.Shown.TheVariants as shown
 use Rattle.rad_advice.specs.declared.faults.FaultReport.{FaultReport}
 use Rattle.rad_advice.specs.Keys.{BeginsAtPlace}
 use Rattle.rad_advice.specs.Printed.{name_text, at_text}
+use Rattle.rad_advice.specs.Telling.{is_told}
 
 -- ---- the value
 
@@ -31,10 +32,10 @@ data_in p index key doc = option_and_then (get key) (option_and_then (at index) 
 abbrev pub data_at : Spot → Members → Option Data
 data_at s doc = data_in s.part s.index (key_name s.key) doc
 
--- Texts and whole numbers are told.
+-- A text is told if it has nothing but digits, `.`, `:` and `/`, and a whole number if it is not negative.
 abbrev pub data_text : Option Data → List ℕ
-data_text (Some (string text)) = codes ": " ++ name_text text
-data_text (Some (integer number)) = codes ": " ++ signed_decimal number
+data_text (Some (string text)) = if is_told text then codes ": " ++ name_text text else []
+data_text (Some (integer number)) = if int_lt number (pos 0) then [] else codes ": " ++ signed_decimal number
 data_text _ = []
 
 abbrev pub is_secret : Key → Bool
@@ -80,18 +81,18 @@ has_colons text = nat_le 2 (length (filter (λ o. o == 58) text))
 -- The hint for a text that is no address of a client.
 abbrev pub client_hint : List ℕ → List ℕ
 client_hint text =
-    if has_octet text 47 then codes " is a block: one [[client]] for each address"
-    else if has_colons text then codes " is IPv6: IPv4 alone is served"
-    else if has_octet text 58 then codes " has a port: a client has none"
-    else if has_letter text then codes " is a host name, not an address"
+    if has_octet text 47 then codes ": it is a block: one [[client]] for each address"
+    else if has_colons text then codes ": it is IPv6: IPv4 alone is served"
+    else if has_octet text 58 then codes ": it has a port: a client has none"
+    else if has_letter text then codes ": it is a host name, not an address"
     else codes ": four numbers from 0 to 255, joined by dots, none with a 0 before it"
 
 -- The hint for a text that is no address and port.
 abbrev pub server_hint : List ℕ → List ℕ
 server_hint text =
-    if has_octet text 47 then codes " is a block, not an address and port"
-    else if has_colons text then codes " is IPv6: IPv4 alone is served"
-    else if has_letter text then codes " is a host name, not an address"
+    if has_octet text 47 then codes ": it is a block, not an address and port"
+    else if has_colons text then codes ": it is IPv6: IPv4 alone is served"
+    else if has_letter text then codes ": it is a host name, not an address"
     else if not (has_octet text 58) then codes ": the port is missing"
     else codes ": an address and a port from 1 to 65535, as in 192.0.2.1:1813"
 

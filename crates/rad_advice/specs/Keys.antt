@@ -15,6 +15,7 @@ use Rattle.rad_advice.specs.declared.unread.Unread.{Unread}
 use Rattle.rad_advice.specs.declared.unread.UnreadKey.{UnreadKey}
 use Rattle.rad_advice.specs.declared.place.Place.{Place}
 use Rattle.rad_advice.specs.Place.{place_at}
+use Rattle.rad_advice.specs.Telling.{is_near_one_of}
 
 -- The keys that are read in the tables of a part.
 abbrev pub read_keys : Part → List Key
@@ -94,6 +95,8 @@ BeginsAt name offset text = option_map (λ k. first_part k.0) (key (drop offset 
 abbrev pub BeginsAtPlace : List ℕ → List ℕ → Place → Type 0
 BeginsAtPlace text name place = (offset : ℕ) × (offset ≤ length text) × BeginsAt name offset text × (place ≡ place_at offset text)
 
--- If a key's place is known, a key whose first part has its name begins there.
-abbrev pub StandsIn : List ℕ → UnreadKey → Type 0
-StandsIn text k = IfSome k.place (BeginsAtPlace text (string_bytes k.name))
+-- If a key's place is known, a key whose first part has its name begins there. Its name is told if it is near that of a key
+-- that is read in its table.
+pub record IsReportedIn (text : List ℕ) (k : UnreadKey) : Type 0 where
+  pub place : IfSome k.place (BeginsAtPlace text (string_bytes k.name))
+  pub near : k.is_near ≡ is_near_one_of (read_names k.part) (string_bytes k.name)

@@ -5,3 +5,4 @@ pub mod Keys
 pub mod Place
 pub mod Printed
 pub mod Syntax
+pub mod Telling

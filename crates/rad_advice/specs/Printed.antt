@@ -1,5 +1,5 @@
 -- The printed reports on a configuration (own).
-use Rattle.std.specs.Prelude.{ℕ, nat_le, if◌then◌else◌, List, [], ◌++◌, length, take, codes, Option, Some, None, string_bytes}
+use Rattle.std.specs.Prelude.{ℕ, nat_le, Bool, if◌then◌else◌, List, [], ◌++◌, length, take, codes, Option, Some, None, string_bytes}
 use Rattle.std.specs.Fmt.{decimal}
 use Rattle.rad_log.specs.Escaped.{escaped}
 use Rattle.rad_config.specs.declared.reading.faults.Part.{Part}
@@ -29,8 +29,12 @@ abbrev pub at_text : Option Place → List ℕ
 at_text None = []
 at_text (Some place) = codes " at " ++ place_text place
 
+-- A key by its name, if that is near a known one.
+abbrev pub key_text : Bool → List ℕ → List ℕ
+key_text near name = if near then name_text name else codes "a key"
+
 abbrev pub unread_text : UnreadKey → List ℕ
-unread_text k = table_text k.part k.index ++ name_text (string_bytes k.name) ++ at_text k.place
+unread_text k = table_text k.part k.index ++ key_text k.is_near (string_bytes k.name) ++ at_text k.place
 
 abbrev pub address_fault_text : AddressFault → List ℕ
 address_fault_text Listen = codes "listen serves it, so requests would come back"

@@ -1,11 +1,13 @@
 //! The faults of a configuration, as its operator is told of them.
 
-ghost use Rattle.std.specs.Prelude.{◌≡◌, ◌-◌, [], All, length, map, take, option_map, option_and_then, IfOk, IfSome, OnOk, IsUtf8, string_bytes, Some, if◌then◌else◌};
+ghost use Rattle.std.specs.Prelude.{◌≡◌, ◌-◌, ◌++◌, [], All, codes, length, map, take, option_map, option_and_then, IfOk, IfSome, OnOk, IsUtf8, string_bytes, Some, if◌then◌else◌};
 ghost use Rattle.toml.specs.Data.{as_str, at, get};
 ghost use Rattle.toml.specs.View.{view, table_view};
 ghost use Rattle.rad_realms.specs.Spot.{key_name, part_name};
 ghost use Rattle.rad_realms.specs.Faults.{faults_in};
 ghost use Rattle.rad_advice.specs.Keys.{BeginsAtPlace};
+ghost use Rattle.rad_advice.specs.Printed.{name_text};
+ghost use Rattle.rad_advice.specs.Telling.{is_told};
 ghost use Rattle.rad_advice.specs.Faults.{data_at, data_text, text_at as told_text, value_text, spot_in, shown_text, entry_told, entry_of, entries_in, entries_in_text, sought as name_sought, key_sought, is_top, IsPlacedIn};
 
 use crate::finding::{find_key, find_table};
@@ -21,9 +23,9 @@ use toml::{Table, Value};
 /// The most faults that are listed.
 const MOST_LISTED: usize = 50;
 
-/// A fault of a configuration. It is printed as its name and spot, its place, the value, unless that is a secret, and a
-/// hint: `BadAddress at client 0 address at line 4, column 1: 10.2.0.0/16 is a block: one [[client]] for each address`.
-/// The value is escaped, and cut if it is long.
+/// A fault of a configuration. It is printed as its name and spot, its place, the value, if it can be no secret, and a
+/// hint: `BadAddress at client 0 address at line 4, column 1: 10.2.0.0/16: it is a block: one [[client]] for each address`.
+/// The value is cut if it is long.
 #[derive(Drop)]
 pub struct FaultReport {
     /// The fault.
@@ -41,7 +43,7 @@ pub struct FaultReport {
 /// A value that is told.
 #[derive(Drop)]
 enum Shown {
-    /// A secret, an absent value, or one of another type.
+    /// A secret, or a value that may be one; an absent value, or one of another type.
     Nothing,
     Text(String),
     Number(i64),
@@ -295,13 +297,31 @@ fn show(alloc: Global, value: &Value) -> Result<Shown, AllocError>
     ensures { IfOk result (λ shown. shown_text shown ≡ data_text (Some (view value.now))) }
 {
     if let Some(text) = value.as_str() {
-        let text = String::from_str(alloc, text)?;
-        return Ok(Shown::Text(text));
+        return show_text(alloc, text);
     }
     match value.as_integer() {
-        Some(number) => Ok(Shown::Number(number)),
-        None => Ok(Shown::Nothing),
+        Some(number) if number >= 0 => Ok(Shown::Number(number)),
+        _ => Ok(Shown::Nothing),
     }
+}
+
+/// Returns what is told of a text.
+fn show_text(alloc: Global, text: &str) -> Result<Shown, AllocError>
+    ensures { IfOk result (λ shown. shown_text shown ≡ (if is_told text.now then codes ": " ++ name_text text.now else [])) }
+{
+    if !may_tell(text.as_bytes()) {
+        return Ok(Shown::Nothing);
+    }
+    let text = String::from_str(alloc, text)?;
+    Ok(Shown::Text(text))
+}
+
+/// For the proof: whether a text has digits, `.`, `:` and `/` alone.
+fn may_tell(text: &[u8]) -> bool
+    ensures { result ≡ is_told text.now }
+{
+    text.iter()
+        .all(|octet| octet.is_ascii_digit() || matches!(*octet, b'.' | b':' | b'/'))
 }
 
 /// Returns the place of a fault's key; or of the header of its table, if the key is absent there.

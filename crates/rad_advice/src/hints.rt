@@ -101,13 +101,13 @@ fn client_hint(text: &[u8]) -> &'static str
     ensures { result.now ≡ hint_for_client text.now }
 {
     if has_octet(text, b'/') {
-        " is a block: one [[client]] for each address"
+        ": it is a block: one [[client]] for each address"
     } else if has_colons(text) {
-        " is IPv6: IPv4 alone is served"
+        ": it is IPv6: IPv4 alone is served"
     } else if has_octet(text, b':') {
-        " has a port: a client has none"
+        ": it has a port: a client has none"
     } else if has_letter(text) {
-        " is a host name, not an address"
+        ": it is a host name, not an address"
     } else {
         ": four numbers from 0 to 255, joined by dots, none with a 0 before it"
     }
@@ -118,11 +118,11 @@ fn server_hint(text: &[u8]) -> &'static str
     ensures { result.now ≡ hint_for_server text.now }
 {
     if has_octet(text, b'/') {
-        " is a block, not an address and port"
+        ": it is a block, not an address and port"
     } else if has_colons(text) {
-        " is IPv6: IPv4 alone is served"
+        ": it is IPv6: IPv4 alone is served"
     } else if has_letter(text) {
-        " is a host name, not an address"
+        ": it is a host name, not an address"
     } else if !has_octet(text, b':') {
         ": the port is missing"
     } else {

@@ -15,6 +15,7 @@ mod hints;
 mod homes;
 mod keys;
 mod name_text;
+mod near;
 mod place;
 mod syntax;
 mod tokens;

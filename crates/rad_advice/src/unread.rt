@@ -4,11 +4,12 @@ ghost use Rattle.std.specs.Prelude.{◌≡◌, ◌≤◌, ◌-◌, ◌++◌, [],
 ghost use Rattle.toml.specs.Data.{no_items, no_members, as_array, as_table, get_member};
 ghost use Rattle.toml.specs.View.{view, items_view, table_view};
 ghost use Rattle.rad_realms.specs.Spot.{part_name as name_of_part};
-ghost use Rattle.rad_advice.specs.Keys.{unless_read, read_names, unread_in_table, unread_in_items, items_at, unread_in, unread_in_text, entry_listed, entry_found, BeginsAtPlace, StandsIn};
+ghost use Rattle.rad_advice.specs.Keys.{unless_read, read_names, unread_in_table, unread_in_items, items_at, unread_in, unread_in_text, entry_listed, entry_found, BeginsAtPlace, IsReportedIn};
 
 use crate::finding::find_key;
 use crate::keys::is_read;
 use crate::name_text::NameText;
+use crate::near::is_near_key;
 use crate::place::{AtText, Place, place_of};
 use rad_realms::Part;
 use std::alloc::{AllocError, Global};
@@ -18,8 +19,8 @@ use toml::{Table, Value};
 /// The most keys that are listed.
 const MOST_LISTED: usize = 20;
 
-/// A key of a configuration that is not read. It is printed as `home 0 windw at line 7, column 1`. Its name is
-/// escaped, and cut if it is long.
+/// A key of a configuration that is not read. It is printed as `home 0 windw at line 7, column 1`, or as `home 0 a key at
+/// line 7, column 1` if its name is not near that of a key that is read there, and may be a secret.
 #[derive(Drop)]
 pub struct UnreadKey {
     /// The part whose table contains it.
@@ -28,6 +29,8 @@ pub struct UnreadKey {
     index: usize,
     /// Its name.
     name: String,
+    /// Whether at most two edits make it of the name of a key that is read in such a table.
+    is_near: bool,
     /// Its place in the text, if it was found.
     place: Option<Place>,
 }
@@ -74,8 +77,11 @@ impl fmt::Display for UnreadKey {
             part: self.part,
             index: self.index,
         };
-        let name = NameText(self.name.as_str());
         let at = AtText(self.place);
+        if !self.is_near {
+            return write!(f, "{table}a key{at}");
+        }
+        let name = NameText(self.name.as_str());
         write!(f, "{table}{name}{at}")
     }
 }
@@ -149,7 +155,7 @@ struct Unread<'t> {
 pub fn unread_keys(alloc: Global, text: &[u8]) -> Result<UnreadKeys, AllocError>
     ensures first { IsUtf8 text.now → IfOk result (λ keys. map entry_listed keys.listed.items ≡ take 20 (unread_in_text text.now)) }
     ensures more { IsUtf8 text.now → IfOk result (λ keys. keys.more ≡ length (unread_in_text text.now) - 20) }
-    ensures places { IfOk result (λ keys. All (StandsIn text.now) keys.listed.items) }
+    ensures each { IfOk result (λ keys. All (IsReportedIn text.now) keys.listed.items) }
     ensures other { ¬ IsUtf8 text.now → IfOk result (λ keys. (keys.listed.items ≡ []) × (keys.more ≡ 0)) }
 {
     match std::str::from_utf8(text) {
@@ -173,7 +179,7 @@ fn no_keys(alloc: Global) -> UnreadKeys
 fn keys_of_text(alloc: Global, text: &str) -> Result<UnreadKeys, AllocError>
     ensures first { IfOk result (λ keys. map entry_listed keys.listed.items ≡ take 20 (unread_in_text text.now)) }
     ensures more { IfOk result (λ keys. keys.more ≡ length (unread_in_text text.now) - 20) }
-    ensures places { IfOk result (λ keys. All (StandsIn text.now) keys.listed.items) }
+    ensures each { IfOk result (λ keys. All (IsReportedIn text.now) keys.listed.items) }
 {
     match toml::table_from_str(alloc, text) {
         Ok(document) => {
@@ -193,7 +199,7 @@ fn keys_of_text(alloc: Global, text: &str) -> Result<UnreadKeys, AllocError>
 fn list(alloc: Global, text: &str, unread: &[Unread<'_>]) -> Result<UnreadKeys, AllocError>
     ensures first { IfOk result (λ keys. map entry_listed keys.listed.items ≡ take 20 (map entry_found unread.now)) }
     ensures more { IfOk result (λ keys. keys.more ≡ length (map entry_found unread.now) - 20) }
-    ensures places { IfOk result (λ keys. All (StandsIn text.now) keys.listed.items) }
+    ensures each { IfOk result (λ keys. All (IsReportedIn text.now) keys.listed.items) }
 {
     let count = unread.len().min(MOST_LISTED);
     let mut listed = Vec::new(alloc);
@@ -208,15 +214,17 @@ fn list(alloc: Global, text: &str, unread: &[Unread<'_>]) -> Result<UnreadKeys, 
 /// Returns a key with its place in the text.
 fn place_key(alloc: Global, text: &str, key: Unread<'_>) -> Result<UnreadKey, AllocError>
     ensures entry { IfOk result (λ listed. entry_listed listed ≡ entry_found key.entry) }
-    ensures place { IfOk result (λ listed. StandsIn text.now listed) }
+    ensures reported { IfOk result (λ listed. IsReportedIn text.now listed) }
 {
     let Unread { part, index, name } = key;
     let place = find_place(alloc, text, part, index, name)?;
+    let is_near = is_near_key(alloc, part, name)?;
     let name = String::from_str(alloc, name)?;
     Ok(UnreadKey {
         part,
         index,
         name,
+        is_near,
         place,
     })
 }

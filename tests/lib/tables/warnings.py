@@ -43,14 +43,14 @@ def unread_keys():
         # not TOML
         ("windw = 3\n= 4\n", "Toml", no_toml(2, 1, KEY)),
         # the top
-        ("windw = 3\n", ABSENT, unread("top windw at line 1, column 1")),
-        ("\n  windw = 3\n", ABSENT, unread("top windw at line 2, column 3")),
-        ("\ufeffwindw = 3\n", ABSENT, unread("top windw at line 1, column 2")),
+        ("windw = 3\n", ABSENT, unread("top a key at line 1, column 1")),
+        ("\n  windw = 3\n", ABSENT, unread("top a key at line 2, column 3")),
+        ("\ufeffwindw = 3\n", ABSENT, unread("top a key at line 1, column 2")),
         ("Listen = 1\nlisten = 2\n", NO_TEXT, unread("top Listen at line 1, column 1")),
-        ("address = 1\n", ABSENT, unread("top address at line 1, column 1")),
+        ("address = 1\n", ABSENT, unread("top a key at line 1, column 1")),
         # in the order of their octets, each with its place
         ('zz = 1\nlisten = 2\nb.c = 3\nb.d = 4\n"a" = 5\n', NO_TEXT,
-         unread("top a at line 5, column 1", "top b at line 3, column 1", "top zz at line 1, column 1")),
+         unread("top a key at line 5, column 1", "top a key at line 3, column 1", "top a key at line 1, column 1")),
         # headers
         ("listen = 1\n[[realms]]\nname = 2\n[[realms]]\n", NO_TEXT, unread("top realms at line 2, column 3")),
         ("[ realms ]\nname = 2\n", ABSENT, unread("top realms at line 1, column 3")),
@@ -63,50 +63,49 @@ def unread_keys():
         ("[[home]]\n\twindw = 3 # windw = 4\n[[home]]\nwindw = 3\n", ABSENT,
          unread("home 0 windw at line 2, column 2", "home 1 windw at line 4, column 1")),
         ("[[realm]]\nhome = 1\nhomes = 2\n[[client]]\nname = 1\n[[home]]\nlisten = 2\n", ABSENT,
-         unread("client 0 name at line 5, column 1", "home 0 listen at line 7, column 1", "realm 0 homes at line 3, column 1")),
+         unread("client 0 a key at line 5, column 1", "home 0 a key at line 7, column 1", "realm 0 homes at line 3, column 1")),
         # other tables between two tables of one array
         ("[[home]]\na = 1\n[[client]]\na = 2\n[[home]]\na = 3\n[[client]]\na = 4\n", ABSENT,
-         unread("client 0 a at line 4, column 1", "client 1 a at line 8, column 1", "home 0 a at line 2, column 1",
-                "home 1 a at line 6, column 1")),
+         unread("client 0 a key at line 4, column 1", "client 1 a key at line 8, column 1", "home 0 a key at line 2, column 1",
+                "home 1 a key at line 6, column 1")),
         # tables in tables
         ("[[home]]\n[home.limits]\nwindow = 3\n[[home]]\n[ home . limits . more ]\n", ABSENT,
-         unread("home 0 limits at line 2, column 7", "home 1 limits at line 5, column 10")),
-        ("[[home]]\nlimits.window = 3\n", ABSENT, unread("home 0 limits at line 2, column 1")),
-        ('[[client]]\n[[client."host"]]\n[[client.host]]\n', ABSENT, unread("client 0 host at line 2, column 10")),
+         unread("home 0 a key at line 2, column 7", "home 1 a key at line 5, column 10")),
+        ("[[home]]\nlimits.window = 3\n", ABSENT, unread("home 0 a key at line 2, column 1")),
+        ('[[client]]\n[[client."host"]]\n[[client.host]]\n', ABSENT, unread("client 0 a key at line 2, column 10")),
         ("[[home]]\n[home.window]\nx = 1\n", ABSENT),
         # arrays that are written as one value
         ("home = [ { name = 1, windw = 3 }, { 'x' = [ { windw = 5 } ], windw = { windw = 6 } } ]\n", ABSENT,
-         unread("home 0 windw at line 1, column 22", "home 1 windw at line 1, column 62", "home 1 x at line 1, column 37")),
+         unread("home 0 windw at line 1, column 22", "home 1 windw at line 1, column 62", "home 1 a key at line 1, column 37")),
         ("client = [\n  # { b = 1 },\n  { a = \"}, {\" },\n  {\n    b = ''' ] '''\n  },\n]\n", ABSENT,
-         unread("client 0 a at line 3, column 5", "client 1 b at line 5, column 5")),
-        ("realm = [ { name = 1, a.b = 2, a.c = 3 } ]\n", ABSENT, unread("realm 0 a at line 1, column 23")),
+         unread("client 0 a key at line 3, column 5", "client 1 a key at line 5, column 5")),
+        ("realm = [ { name = 1, a.b = 2, a.c = 3 } ]\n", ABSENT, unread("realm 0 a key at line 1, column 23")),
         # values that are not arrays of tables
         ("home = 3\nclient = { windw = 1 }\n[realm]\nwindw = 1\n", ABSENT),
         ("home = [ 1, { windw = 2 } ]\n", ABSENT, unread("home 1 windw at line 1, column 15")),
         ("home = [ [ { windw = 2 } ] ]\n", ABSENT),
         # values that look like keys
         ('secret = """\nwindw = 1\n[[home]]\n"""\nwindw = \'\'\'\n[x]\n\'\'\'\n', ABSENT,
-         unread("top secret at line 1, column 1", "top windw at line 5, column 1")),
-        ("a = [ '[', \"]\\\"\", # ]\n [ ] ]\nb = 1\n", ABSENT, unread("top a at line 1, column 1", "top b at line 3, column 1")),
+         unread("top a key at line 1, column 1", "top a key at line 5, column 1")),
+        ("a = [ '[', \"]\\\"\", # ]\n [ ] ]\nb = 1\n", ABSENT, unread("top a key at line 1, column 1", "top a key at line 3, column 1")),
         ('a = """x"""""\nb = 1979-05-27T07:32:00.5+01:00\nc = 1e5 # c\r\nd = -inf\n', ABSENT,
-         unread("top a at line 1, column 1", "top b at line 2, column 1", "top c at line 3, column 1",
-                "top d at line 4, column 1")),
+         unread("top a key at line 1, column 1", "top a key at line 2, column 1", "top a key at line 3, column 1",
+                "top a key at line 4, column 1")),
         # keys in quotation marks
         ('"lis\\u0074en" = 1\n\'a b\' = 2\n"\\u00e9" = 3\n\'\' = 4\n', NO_TEXT,
-         unread("top  at line 4, column 1", "top a%20b at line 2, column 1", "top %c3%a9 at line 3, column 1")),
+         unread("top a key at line 4, column 1", "top a key at line 2, column 1", "top a key at line 3, column 1")),
         ('"a\\nb\\u001b" = 1\n"%" = 2\n"\\"" = 3\n"=" = 4\n"#]" = 5\nz = 6\n', ABSENT,
-         unread("top %22 at line 3, column 1", "top #] at line 5, column 1", "top %25 at line 2, column 1",
-                "top %3d at line 4, column 1", "top a%0ab%1b at line 1, column 1", "top z at line 6, column 1")),
+         unread("top a key at line 3, column 1", "top a key at line 5, column 1", "top a key at line 2, column 1",
+                "top a key at line 4, column 1", "top a key at line 1, column 1", "top a key at line 6, column 1")),
         # columns count characters
         ('home = [ { secret = "\u00e9\U0001d11e", windw = 3 } ]\n', ABSENT, unread("home 0 windw at line 1, column 27")),
-        # a long name is cut
-        ("a123456789b123456789c123456789d123456789e123456789f123456789g123 = 1\n", ABSENT,
-         unread("top a123456789b123456789c123456789d123456789e123456789f123456789g123 at line 1, column 1")),
+        # a long name
         ("a123456789b123456789c123456789d123456789e123456789f123456789g1234 = 1\n", ABSENT,
-         unread("top a123456789b123456789c123456789d123456789e123456789f123456789g123.. at line 1, column 1")),
+         unread("top a key at line 1, column 1")),
+        ("k" * 1_000_000 + " = 1\n", ABSENT, unread("top a key at line 1, column 1")),
         # a last line without a line feed
-        ("listen = 1\nx = 2", NO_TEXT, unread("top x at line 2, column 1")),
-        ("[[home]]\n[x]", ABSENT, unread("top x at line 2, column 2")),
+        ("listen = 1\nx = 2", NO_TEXT, unread("top a key at line 2, column 1")),
+        ("[[home]]\n[x]", ABSENT, unread("top a key at line 2, column 2")),
         ("[[home]]\nname = 1\n[[home]]\n\n# windw = 1\n\r\n  windw=1\r\n", ABSENT, unread("home 1 windw at line 7, column 3")),
         ("listen = { windw = 1 }\nlinger.windw = 2\n", NO_TEXT),
         # octets that are no text have no keys
@@ -114,12 +113,36 @@ def unread_keys():
     ])
 
 
+# The keys that are read, by part.
+READ = {"client": ["address", "secret"], "realm": ["name", "home"],
+        "home": ["name", "address", "secret", "window", "queue", "book", "tries", "first_wait", "probe_every", "down_wait", "span", "ring",
+                 "ports"]}
+# Keys of the top, and whether their names are told: those that two edits or fewer make of a known one.
+NEAR = {"lisen": True, "lstn": True, "lst": False, "lixxen": True, "lxxxen": False, "lisxxten": True, "lisxxxten": False, "lisetn": True,
+        "isten": True, "istenx": True, "stenx": False, "LIsten": True, "LISten": False, "clnt": True, "cln": False, "hme": True, "ho": True,
+        "h": False, "real": True, "realms": True, "reams": True, "rums": False, "default-home": True, "default_homes": True,
+        "defaulthomes": True, "default": False, "windw": False, "secret": False, "name": True, "ring": False, "homexx": True}
+
+
+def names_that_are_told():
+    """An unread key is told by its name if that is near a known one of its table, since it may be a secret."""
+    for name, is_near in NEAR.items():
+        yield name, f"{name} = 1\n".encode(), ABSENT, unread(f"top {name if is_near else 'a key'} at line 1, column 1")
+    yield "two octets", '"list\u00e9en" = 1\n'.encode(), ABSENT, unread("top list%c3%a9en at line 1, column 1")
+    yield "three octets", '"list\u20acen" = 1\n'.encode(), ABSENT, unread("top a key at line 1, column 1")
+    yield "a line feed", b'"lis\\nen" = 1\n', ABSENT, unread("top lis%0aen at line 1, column 1")
+    for part, keys in READ.items():
+        for key in keys:
+            for name, told in ((f"{key}zz", f"{key}zz"), (f"zzz{key}", "a key")):
+                yield f"{part} {name}", f"[[{part}]]\n{name} = 1\n".encode(), ABSENT, unread(f"{part} 0 {told} at line 2, column 1")
+
+
 def many_unread_keys():
     """Tables of many unread keys: 20 are listed, in the order of their octets, and the others are counted."""
     for count in (19, 20, 21, 1000):
         text = "[[home]]\n" + lines(f"key-{number} = 1" for number in range(count))
         first = sorted(range(count), key=str)[:MOST_LISTED]
-        told = unread(*(f"home 0 key-{number} at line {number + 2}, column 1" for number in first))
+        told = unread(*(f"home 0 a key at line {number + 2}, column 1" for number in first))
         rest = count - len(first)
         yield f"{count} keys", text.encode(), ABSENT, told + ([f"level=warn event=unread-keys count={rest}"] if rest else [])
     tables = '[[home]]\nname = "h[1]"\nwindow = [ 1, { a = 2 } ]\n' * 300
@@ -188,7 +211,7 @@ def texts_that_are_toml():
         ('listen = "\u00e9"', "BadAddress at top listen"),
         ("# a comment alone", ABSENT),
         ("[[client]]\r\naddress = '10.0.0.1'\r\n", ABSENT),
-        ("d = 1979-05-27 07:32:00Z\n", ABSENT, unread("top d at line 1, column 1")),
+        ("d = 1979-05-27 07:32:00Z\n", ABSENT, unread("top a key at line 1, column 1")),
     ])
 
 
@@ -252,5 +275,5 @@ def homes_in_their_order():
     yield "six home servers", ('listen = "0.0.0.0:1813"\n' + CLIENT + lines(tables)).encode(), None, told
 
 
-TABLES = [unread_keys, many_unread_keys, syntax, octets_that_are_no_text, texts_that_are_toml, addresses_of_homes,
+TABLES = [unread_keys, names_that_are_told, many_unread_keys, syntax, octets_that_are_no_text, texts_that_are_toml, addresses_of_homes,
           homes_in_their_order]

@@ -1,6 +1,6 @@
 use Rattle.std.proofs.Common.{take, arith}
 use Rattle.std.proofs.lemmas.Grind.{common_steps}
-use Rattle.rad_advice.specs.Keys.{entry_listed, entry_found, StandsIn}
+use Rattle.rad_advice.specs.Keys.{entry_listed, entry_found, IsReportedIn}
 use Rattle.rad_advice.proofs.Lists.{first_ones, others, end_of_front, images_of_none, images_of_more, all_of_none, all_of_more}
 use Rattle.rad_advice.proofs.unread.list.Goals as goal
 
@@ -13,8 +13,8 @@ returns-clause-first c =
 pub returns-clause-more : goal.returns-clause-more
 returns-clause-more c = others entry_found 20 c.args.unread.now c.min-count.result c.min-count.ensures
 
-pub returns-clause-places : goal.returns-clause-places
-returns-clause-places c = c.loop-key.invariant.places
+pub returns-clause-each : goal.returns-clause-each
+returns-clause-each c = c.loop-key.invariant.each
 
 pub overflow_sub-more : goal.overflow_sub-more
 overflow_sub-more c = omega arith
@@ -25,7 +25,7 @@ slice_bounds-key-items-end c = end_of_front 20 c.args.unread.now c.min-count.res
 pub loop-key-init : goal.loop-key-init
 loop-key-init c = record {
   first = images_of_none entry_listed c.new-listed.result.items c.new-listed.ensures.items;
-  places = all_of_none (StandsIn c.args.text.now) c.new-listed.result.items c.new-listed.ensures.items;
+  each = all_of_none (IsReportedIn c.args.text.now) c.new-listed.result.items c.new-listed.ensures.items;
 }
 
 pub loop-key-preserved : goal.loop-key-preserved
@@ -35,5 +35,5 @@ loop-key-preserved c =
     let front = take c.min-count.result c.args.unread.now in
     record {
       first = images_of_more entry_listed entry_found old new c.in_ok-key.key front c.loop-key.key-index _ c.in_ok-push.ensures.items c.loop-key-test.true c.in_ok-key.ensures.entry c.loop-key.invariant.first;
-      places = all_of_more (StandsIn c.args.text.now) old new c.in_ok-key.key c.in_ok-push.ensures.items c.loop-key.invariant.places c.in_ok-key.ensures.place;
+      each = all_of_more (IsReportedIn c.args.text.now) old new c.in_ok-key.key c.in_ok-push.ensures.items c.loop-key.invariant.each c.in_ok-key.ensures.reported;
     }
