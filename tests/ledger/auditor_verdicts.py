@@ -41,6 +41,7 @@ def calls(folder):
     yield [str(good), "absent.jsonl"], "file: absent.jsonl", 4
     yield [str(good), "none.jsonl", "."], "file: .", 4
     yield [str(good), "a\nb"], "file: a%0ab", 4
+    yield [str(good), "a\u202eb"], "file: a%e2%80%aeb", 4
 
 
 def audited(program, words, folder):

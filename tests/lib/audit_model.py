@@ -11,6 +11,7 @@ import pathlib
 import re
 import sys
 import tomllib
+import unicodedata
 from datetime import date
 
 MOST_CONFIG, MOST_LINE = 1_048_576, 65_536
@@ -32,6 +33,8 @@ STATES = {"queued", "outstanding", "untaken"}
 LIMITS = {"lane": 2**16, "serial": 2**63, "record": 2**64, "port": 2**16, "identifier": 2**8, "status": 2**32, "file": 2**64, "entries": 2**64,
           "accepted": 2**64, "left": 2**64, "sendings": 2**32, "octets": 2**64}
 SHA_256 = re.compile("[0-9a-fA-F]{64}")
+# The categories of characters that are not printed as they are.
+HIDDEN = {"Cc", "Cf", "Zl", "Zp"}
 
 
 class Ends(Exception):
@@ -47,10 +50,14 @@ def need(fact):
         raise NoLine
 
 
+def is_hidden(character):
+    """Whether a character is a control (Cc), a format character (Cf), or a separator of lines or paragraphs (Zl, Zp)."""
+    return unicodedata.category(character) in HIDDEN
+
+
 def shown(word):
-    """A word as it is printed: each octet of a control character as `%` and two digits."""
-    is_control = lambda character: ord(character) < 32 or 127 <= ord(character) < 160
-    return "".join("".join(f"%{octet:02x}" for octet in c.encode()) if is_control(c) else c for c in word)
+    """A word as it is printed: each octet of a control or format character, or of a separator of lines, as `%` and two digits."""
+    return "".join("".join(f"%{octet:02x}" for octet in c.encode()) if is_hidden(c) else c for c in word)
 
 
 # Lines.

@@ -7,6 +7,12 @@ from trial.faults import Fault
 # What a row has where there is no value, and the Acct-Status-Type of a Stop (RFC 2866 section 5.1).
 NONE, STOP = "-", "2"
 ESCAPE = re.compile(rb"%([0-9a-fA-F]{2})")
+# The first and the last of each run of Unicode's format characters, and of its separators of lines and paragraphs, as rad_audit has them.
+FORMAT_RUNS = (
+    (0xAD, 0xAD), (0x600, 0x605), (0x61C, 0x61C), (0x6DD, 0x6DD), (0x70F, 0x70F), (0x890, 0x891), (0x8E2, 0x8E2), (0x180E, 0x180E),
+    (0x200B, 0x200F), (0x2028, 0x202E), (0x2060, 0x206F), (0xFEFF, 0xFEFF), (0xFFF9, 0xFFFB), (0x110BD, 0x110BD), (0x110CD, 0x110CD),
+    (0x13430, 0x1343F), (0x1BCA0, 0x1BCA3), (0x1D173, 0x1D17A), (0xE0001, 0xE0001), (0xE0020, 0xE007F),
+)
 
 
 class Row(NamedTuple):
@@ -58,11 +64,12 @@ def cell(octets):
         text = octets.decode("utf-8")
     except UnicodeDecodeError:
         return "".join(chr(one) if 0x20 <= one < 0x7F and one not in b"%\\" else f"%{one:02x}" for one in octets)
-    return "".join(escaped(one) if is_control(one) or one in "%\\" else one for one in text)
+    return "".join(escaped(one) if is_hidden(one) or one in "%\\" else one for one in text)
 
 
-def is_control(one):
-    return one < " " or "\x7f" <= one < "\xa0"
+def is_hidden(one):
+    """Whether a character is a control or format character, or a separator of lines or paragraphs."""
+    return one < " " or "\x7f" <= one < "\xa0" or any(first <= ord(one) <= last for first, last in FORMAT_RUNS)
 
 
 def escaped(one):

@@ -5,12 +5,12 @@ ghost use Rattle.std.specs.Fmt.{WritesOnOk};
 ghost use Rattle.std.specs.List.{flat_map, list_all};
 ghost use Rattle.rad_audit.specs.Cells.{character_cell, is_escaped as the_is_escaped, is_plain as the_is_plain, octet_cell, text_cell};
 
-use crate::shown::write_escaped;
+use crate::shown::{is_hidden, write_escaped};
 use rad_log::Escaped;
 use rad_realms::AddressText;
 use std::fmt;
 
-/// A value, or `-` where there is none. Control characters, `%`, `\` and octets that are no visible ASCII of a value that
+/// A value, or `-` where there is none. Control and format characters, `%`, `\` and octets that are no visible ASCII of a value that
 /// is not UTF-8 are printed as `%` and two hexadecimal digits for each octet, and a value that is `-` as `%2d`.
 #[derive(Clone, Copy)]
 pub struct Cell<'a>(pub Option<&'a [u8]>);
@@ -163,7 +163,7 @@ fn are_plain(octets: &[u8]) -> bool
 fn is_escaped(character: char) -> bool
     ensures { result ≡ the_is_escaped character }
 {
-    character.is_control() || character == '%' || character == '\\'
+    is_hidden(character) || character == '%' || character == '\\'
 }
 
 /// Whether an octet of a value that is not UTF-8 is printed as it is: a space or visible ASCII, but `%` and `\`.

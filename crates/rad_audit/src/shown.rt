@@ -5,14 +5,15 @@ ghost use Rattle.std.specs.Char.{encode_utf8};
 ghost use Rattle.std.specs.Fmt.{WritesOnOk};
 ghost use Rattle.std.specs.List.{flat_map};
 ghost use Rattle.rad_audit.specs.Cells.{is_escaped};
-ghost use Rattle.rad_audit.specs.Shown.{octet_text, word_text};
+ghost use Rattle.rad_audit.specs.Shown.{format_runs as the_format_runs, is_format as the_is_format, is_hidden as the_is_hidden, octet_text, word_text};
 
 use rad_log::Escaped;
 use std::alloc::{AllocError, Global};
 use std::fmt;
 
-/// A word that may be anything, such as a file's name or a home server's. Each octet of a control character, such as a
-/// line end, is printed as `%` and two hexadecimal digits, and all else unchanged. So it is never a line of its own.
+/// A word that may be anything, such as a file's name or a home server's. Each octet of a control or format character, such
+/// as a line end or a mark of direction, is printed as `%` and two hexadecimal digits, and all else unchanged. So it is
+/// never a line of its own, and changes nothing beside it.
 #[derive(Clone, Copy)]
 pub struct Shown<'a>(pub &'a str);
 
@@ -50,14 +51,59 @@ impl fmt::Display for ShownCharacter {
 
     fn fmt<W: fmt::Write>(&self, f: &mut fmt::Formatter<W>) -> fmt::Result {
         let character = self.0;
-        if !character.is_control() {
+        if !is_hidden(character) {
             return write!(f, "{character}");
         }
         write_escaped(f, character)
     }
 }
 
-/// Writes each octet of a character as `%` and two hexadecimal digits, if it is a control character, `%` or `\`.
+/// Whether a character is not printed as it is: a control or format character, or a separator of lines or paragraphs.
+pub fn is_hidden(character: char) -> bool
+    ensures { result ≡ the_is_hidden character }
+{
+    character.is_control() || is_format(u32::from(character))
+}
+
+/// Whether a code point is in one of the runs.
+fn is_format(code: u32) -> bool
+    ensures { result ≡ the_is_format code }
+{
+    format_runs()
+        .iter()
+        .any(|run| run.0 <= code && code <= run.1)
+}
+
+/// Returns the first and the last code point of each run of Unicode's format characters, and of its separators of lines and
+/// paragraphs.
+fn format_runs() -> &'static [(u32, u32)]
+    ensures { result.now ≡ the_format_runs }
+{
+    &[
+        (0xad, 0xad),
+        (0x600, 0x605),
+        (0x61c, 0x61c),
+        (0x6dd, 0x6dd),
+        (0x70f, 0x70f),
+        (0x890, 0x891),
+        (0x8e2, 0x8e2),
+        (0x180e, 0x180e),
+        (0x200b, 0x200f),
+        (0x2028, 0x202e),
+        (0x2060, 0x206f),
+        (0xfeff, 0xfeff),
+        (0xfff9, 0xfffb),
+        (0x110bd, 0x110bd),
+        (0x110cd, 0x110cd),
+        (0x13430, 0x1343f),
+        (0x1bca0, 0x1bca3),
+        (0x1d173, 0x1d17a),
+        (0xe0001, 0xe0001),
+        (0xe0020, 0xe007f),
+    ]
+}
+
+/// Writes each octet of a character as `%` and two hexadecimal digits, if it is a hidden one, `%` or `\`.
 pub fn write_escaped<W: fmt::Write>(f: &mut fmt::Formatter<W>, character: char) -> fmt::Result
     ensures { is_escaped character ≡ true → WritesOnOk W.write_str_gives f.old result (flat_map octet_text (encode_utf8 character)) f.new }
 {
