@@ -4,6 +4,7 @@ export RT
 
 PROGRAM = crates/rad_proxy/out/rad_proxy
 AUDITOR = crates/rad_audit/out/rad_audit
+CONFIG_JSON = crates/config_json/out/config_json
 SIMULATION = crates/rad_simulation/out/rad_simulation
 EXAMPLE = examples/one-request-answered.replay
 # What runs a script of tests/, before its place: `$(TESTS).rows.run` runs tests/rows/run.py.
@@ -52,13 +53,14 @@ serve:
 replay:
 	@program=$$($(AT_HAND)) && cat $(EXAMPLE) && echo "--- rad_proxy replay < $(EXAMPLE)" && $$program replay < $(EXAMPLE)
 
-# Proves and builds the program and the auditor, over what earlier checks kept, and runs the one as stored and the other over the
-# example.
-#: build       proves and builds the program and the auditor; more than an hour of processor time the first time
+# Proves and builds the programs, over what earlier checks kept: runs rad_proxy as stored, the auditor over the example, and the
+# reader of configurations over that of the example.
+#: build       proves and builds the programs; more than an hour of processor time the first time
 build:
 	@mkdir -p out && touch out/rad_proxy.begun
 	@$(TESTS).gate.progress out/build.txt crates/rad_proxy $(RT) run < crates/rad_proxy/stdin
 	@$(TESTS).gate.progress out/build-audit.txt crates/rad_audit $(RT) run -- ../../examples/one-home.toml ../../examples/one-home.jsonl
+	@$(TESTS).gate.progress out/build-json.txt crates/config_json $(RT) run -- ../../examples/one-home.toml
 	@mv out/rad_proxy.begun $(STAMP)
 
 # The whole gate: all proofs from nothing, the edits of must-fail/, the tests, the stored runs; and then each script that
@@ -173,16 +175,17 @@ CONTROL = version.py trial/__init__.py trial/faults.py $(patsubst tools/%,%,$(wi
 #: install     installs what `make build` left, below PREFIX; `make uninstall` removes it
 install: install-proxy install-tools
 
-# Installs the program and the auditor that `make build` left, the scripts of the service, the units, the manual, the pages and the
+# Installs the programs that `make build` left, the scripts of the service, the units, the manual, the pages and the
 # examples. The configuration is the operator's: $(SYSCONFDIR)/rad_proxy is made, and nothing is put there.
 install-proxy:
-	@for program in $(PROGRAM) $(AUDITOR); do \
+	@for program in $(PROGRAM) $(AUDITOR) $(CONFIG_JSON); do \
 		test -x $$program || { echo "there is no $$program: run make build first" >&2; exit 1; }; \
 	done
 	install -d $(DESTDIR)$(BINDIR) $(DESTDIR)$(SBINDIR) $(DESTDIR)$(LIBEXECDIR)/rad_proxy $(DESTDIR)$(UNITDIR) $(DESTDIR)$(SYSUSERSDIR)
 	install -d $(DESTDIR)$(MANDIR)/man8 $(DESTDIR)$(MANDIR)/man5 $(DESTDIR)$(MANDIR)/man1 $(DESTDIR)$(DOCDIR)/docs $(DESTDIR)$(SYSCONFDIR)/rad_proxy
 	install -m 755 $(PROGRAM) $(DESTDIR)$(SBINDIR)/rad_proxy
 	install -m 755 $(AUDITOR) $(DESTDIR)$(BINDIR)/rad_audit
+	install -m 755 $(CONFIG_JSON) $(DESTDIR)$(LIBEXECDIR)/rad_proxy/config_json
 	sed $(FOLDERS) packaging/serve.in > $(DESTDIR)$(LIBEXECDIR)/rad_proxy/serve
 	chmod 755 $(DESTDIR)$(LIBEXECDIR)/rad_proxy/serve
 	install -d $(DESTDIR)$(LIBEXECDIR)/rad_proxy/controlling $(DESTDIR)$(LIBEXECDIR)/rad_proxy/trial

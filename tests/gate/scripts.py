@@ -5,7 +5,7 @@ from tests.lib import TOP
 
 # What stands for the program that the gate is called with.
 PROGRAM = "PROGRAM"
-SIMULATION, AUDITOR = (f"crates/{name}/out/{name}" for name in ("rad_simulation", "rad_audit"))
+SIMULATION, AUDITOR, CONFIG_JSON = (f"crates/{name}/out/{name}" for name in ("rad_simulation", "rad_audit", "config_json"))
 QUEUE_TESTS = "crates/library_tests/out/library_tests_tests"
 
 
@@ -59,6 +59,7 @@ SCRIPTS = [
     Script("configuration/schema", "--check"),
     Script("configuration/replayed_datagrams"),
     Script("configuration/reasons_by_command"),
+    Script("configuration/read_as_json", CONFIG_JSON),
     Script("models/simulations", SIMULATION),
     Script("models/spoiled_datagrams"),
     Script("models/longest_lists"),

@@ -1,0 +1,4 @@
+mod Adding
+mod Behind
+mod Fine
+mod Members
