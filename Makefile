@@ -168,7 +168,7 @@ MANY = -e 's,@of@, %i,' -e 's,@config@,%i,g' -e 's,@runtime@,rad_proxy-%i,'
 # The tools, which are Python programs with modules beside them; and the modules of rad_proxyctl, which root runs: they are installed
 # beside `serve`, and nothing else is there.
 TOOLS = rad_convert rad_ledger rad_resend rad_trial
-CONTROL = version.py trial/__init__.py trial/faults.py $(patsubst tools/%,%,$(wildcard tools/controlling/*.py))
+CONTROL = version.py configuration.py trial/__init__.py trial/faults.py $(patsubst tools/%,%,$(wildcard tools/controlling/*.py))
 
 .PHONY: install install-proxy install-tools uninstall manual deb service
 

@@ -334,16 +334,16 @@ def probe_says_what_is_wrong_here(room):
         done = room.ask("probe", *words, **options)
         return done.returncode, done.stdout, done.stderr.replace(str(other), "FILE")
 
-    hope("no file", said("-c", other), (2, "", "rad_proxyctl: FILE: No such file or directory\n"))
-    for text in ("listen = ", "\xff", "#" * 1_048_577):
+    hope("no file", said("-c", other), (2, "", "rad_proxyctl: file: FILE\n"))
+    whole = room.file.read_text()
+    for text, told in (("listen = ", "configuration: Toml"), ("\xff", "configuration: Toml"), ("#" * 1_048_577, "file: FILE"),
+                       (f'listen = "{HERE}"\n', "configuration: BadAddress at top listen"), (f'listen = "{HERE}:9"\n', "configuration: Missing at top client"),
+                       (whole.replace(f'address = "{HERE}"', 'address = "127.0.0.2"'),
+                        f"FILE has no [[client]] {HERE}, the address that this machine sends from")):
         other.write_text(text, "latin-1")
-        hope(text[:9], said("-c", other), (2, "", "rad_proxyctl: FILE is no configuration\n"))
-    other.write_text(f'listen = "{HERE}"\n')
-    hope("no port", said("-c", other), (2, "", "rad_proxyctl: FILE: listen is no ADDRESS:PORT\n"))
-    for text in ("", "client = 1\n", '[[client]]\naddress = "127.0.0.2"\nsecret = "s"\n'):
-        other.write_text(f'listen = "{HERE}:9"\n{text}')
-        hope(text, said("-c", other),
-             (2, "", f"rad_proxyctl: FILE has no [[client]] {HERE}, the address that this machine sends from\n"))
+        hope(text[:9], said("-c", other), (2, "", f"rad_proxyctl: {told}\n"))
+    other.write_text(f"tried = [07:32, {{b = 1,}}, \"\\e\\x2d\"]\n{whole}")
+    hope("what the proxy reads", said("-c", other, "--timeout", "1")[0], 1)
     for place in ("here:1813", HERE, f"{HERE}:0", f"{HERE}:65536", "256.0.0.1:1813", "::1:1813"):
         hope(place, said("-s", place), (2, "", f"rad_proxyctl: {place} is no ADDRESS:PORT\n"))
     begun = time.monotonic()

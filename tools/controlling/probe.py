@@ -10,10 +10,10 @@ import re
 import socket
 import time
 
+from configuration import Unread, read
 from trial.faults import Fault
 
 from . import bounds
-from .configuration import tables_of
 from .output import answer
 
 UNANSWERED = 1
@@ -32,15 +32,19 @@ def place_of(text, name):
     return found[1], int(found[2])
 
 
-def secret_of(table, path, address):
+def tables_of(path):
+    """The tables of the configuration in a file, with its secrets."""
+    try:
+        return read(path, with_secrets=True)
+    except Unread as it:
+        raise Fault(str(it), bounds.MISCONFIGURED) from None
+
+
+def secret_of(tables, path, address):
     """The secret of the client with this address."""
-    clients = table.get("client")
-    for client in clients if isinstance(clients, list) else ():
-        if isinstance(client, dict) and client.get("address") == address:
-            secret = client.get("secret")
-            if not isinstance(secret, str) or not 1 <= len(secret.encode()) <= 128:
-                raise Fault(f"{path}: the [[client]] {address} has no secret of 1 to 128 octets", bounds.MISCONFIGURED)
-            return secret.encode()
+    for client in tables["client"]:
+        if client["address"] == address:
+            return client["secret"].encode()
     raise Fault(f"{path} has no [[client]] {address}, the address that this machine sends from", bounds.MISCONFIGURED)
 
 
