@@ -22,6 +22,7 @@ from tests.lib import (ACCOUNTING_RESPONSE, HERE, NOTHING_LEFT, LeftOut, Proxy, 
 
 PATIENCE = 30
 FAULT = 'level=warn event=counters-fault reason="{}"'
+LATE = FAULT.format("takes longer than a second")
 LINE = re.compile(r"level=(error|warn|info|debug|trace) event=[a-z-]+( [a-z_]+=(\"[^\"]*\"|[^ \"=]+))*")
 SOON, LATEST = 3.0, 6.0
 
@@ -284,6 +285,62 @@ def a_hung_file_system_delays_no_end(trial):
     hope("what it tells", trial.log_lines(), [FAULT.format("takes longer than a second")])
 
 
+def a_late_text_is_told_once(trial):
+    """Where each text takes one second and a half, or three and a half, that is told once, however many texts come."""
+    for milliseconds in (1500, 3500):
+        trial.begin(RAD_PROXY_COUNTERS=str(trial.counters), **trial.slowed(SLOW_PATH=str(trial.folder), SLOW_OPEN=milliseconds))
+        for _ in range(3):
+            before = trial.counters.stat().st_ino if trial.counters.exists() else 0
+            until("a new text", lambda: trial.counters.exists() and trial.counters.stat().st_ino != before)
+        time.sleep(1.5)
+        hope(f"what it tells of texts of {milliseconds} ms", trial.log_lines(), [LATE])
+        trial.ends()
+        hope("what it tells at the end", trial.log_lines(), [LATE])
+        trial.log.unlink()
+        trial.counters.unlink()
+
+
+def texts_in_time_are_not_told_late(trial):
+    """Where each text takes 0.7 seconds nothing is told, also where the program ends while one is written."""
+    for wait in (2.2, 2.5, 2.8):
+        trial.begin(RAD_PROXY_COUNTERS=str(trial.counters), **trial.slowed(SLOW_PATH=str(trial.folder), SLOW_OPEN=700))
+        time.sleep(wait)
+        trial.ends()
+        hope("what it tells", trial.log_lines(), [])
+        trial.counters.unlink()
+
+
+def late_texts_are_told_again(trial):
+    """Once a text was written in time, late ones are told again; and a fault of another kind is told beside them, once."""
+    mark = trial.room / "slow"
+    mark.touch()
+    slow = trial.slowed(SLOW_PATH=str(trial.folder), SLOW_OPEN=1500, SLOW_WHILE=str(mark))
+    trial.begin(RAD_PROXY_COUNTERS=str(trial.counters), **slow)
+    until("it tells that they are late", lambda: trial.log_lines() == [LATE])
+    mark.unlink()
+    time.sleep(4)
+    hope("what it tells once they are in time", trial.log_lines(), [LATE])
+    mark.touch()
+    until("it tells that they are late again", lambda: trial.log_lines() == [LATE, LATE])
+    trial.counters.unlink()
+    trial.counters.mkdir()
+    no_file = FAULT.format("no regular file")
+    until("it tells the other fault", lambda: trial.log_lines() == [LATE, LATE, no_file])
+    trial.counters.rmdir()
+    time.sleep(5)
+    trial.ends()
+    hope("what it tells", trial.log_lines(), [LATE, LATE, no_file])
+
+
+def late_texts_that_are_refused(trial):
+    """Where a text takes a second and a half and is refused then, both are told, once each."""
+    slow = trial.slowed(SLOW_PATH=str(trial.folder), SLOW_OPEN=1500)
+    trial.begin(RAD_PROXY_COUNTERS=str(trial.folder / "none" / "counters"), **slow)
+    time.sleep(8)
+    trial.ends()
+    hope("what it tells", trial.log_lines(), [LATE, FAULT.format("not written")])
+
+
 def a_slow_log_holds_no_worker(trial):
     """Where each write of the log takes half a second a request is answered, also behind datagrams that are logged."""
     trial.begin(RAD_PROXY_LOG="debug", **trial.slowed(SLOW_LOG=500))
@@ -389,7 +446,8 @@ TESTS = [
     an_empty_file_becomes_one_of_counters, an_empty_name_is_none,
     everybody_may_read_its_counters, follows_no_link_of_a_new_file, is_not_blocked_by_what_is_left, tells_what_it_cannot_write,
     a_full_disk_keeps_the_last_text,
-    a_hung_file_system_delays_no_end, a_slow_log_holds_no_worker, a_hung_log_delays_no_end, its_last_lines_are_written,
+    a_hung_file_system_delays_no_end, a_late_text_is_told_once, texts_in_time_are_not_told_late, late_texts_are_told_again,
+    late_texts_that_are_refused, a_slow_log_holds_no_worker, a_hung_log_delays_no_end, its_last_lines_are_written,
     each_line_is_there_or_counted, starts_a_line_after_a_part_of_one, a_line_that_is_cut_stands_alone,
 ]
 

@@ -69,6 +69,7 @@ SCRIPTS = [
     Script("faults/exit_reasons"),
     Script("faults/stdin_and_stdout"),
     Script("network/several_addresses"),
+    Script("network/source_ports"),
     Script("network/flooded_port"),
     Script("network/unreachable_home_server"),
     Script("network/limits"),

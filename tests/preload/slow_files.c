@@ -3,7 +3,8 @@
  *
  * Makes files slow for the program that it is loaded into (LD_PRELOAD), as a busy disk or a server that is away would: each
  * write to standard error takes SLOW_LOG milliseconds. Of a file whose path begins with SLOW_PATH each opening takes SLOW_OPEN
- * milliseconds, and each write SLOW_WRITE. And each datagram to the UDP port SLOW_PORT is sent SLOW_SEND milliseconds late.
+ * milliseconds, and each write SLOW_WRITE, if SLOW_WHILE is not set or the file that it names exists. And each datagram to the UDP port
+ * SLOW_PORT is sent SLOW_SEND milliseconds late.
  */
 #define _GNU_SOURCE
 #include <arpa/inet.h>
@@ -32,8 +33,8 @@ static void pause_for(long milliseconds)
 
 static int is_slow(const char *path)
 {
-    const char *slow = getenv("SLOW_PATH");
-    return slow && strncmp(path, slow, strlen(slow)) == 0;
+    const char *slow = getenv("SLOW_PATH"), *mark = getenv("SLOW_WHILE");
+    return slow && (!mark || access(mark, F_OK) == 0) && strncmp(path, slow, strlen(slow)) == 0;
 }
 
 static int is_slow_file(int file)

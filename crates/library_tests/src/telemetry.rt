@@ -4,3 +4,4 @@
 mod ledgers;
 mod logs;
 mod reporting;
+mod sockets;

@@ -1,5 +1,5 @@
 -- The metrics: the name, the kind and the help text of each, and the values of those that are read (own).
-use Rattle.std.specs.Prelude.{ℕ, ◌-◌, List, ◌++◌, codes, Option, Some, None}
+use Rattle.std.specs.Prelude.{ℕ, ◌+◌, ◌-◌, ◌%◌, ◌^◌, ◌&&◌, nat_lt, if◌then◌else◌, List, ◌++◌, codes, Option, Some, None}
 use Rattle.rad_metrics.specs.Families.{Described, counter, gauge, histogram, head_text}
 use Rattle.rad_metrics.specs.Samples.{sample_text}
 use Rattle.rad_metrics.specs.Values.{value_of_bool}
@@ -109,6 +109,14 @@ timed_family timed.Responses = histogram (codes "response_seconds") (codes "From
 abbrev pub socket_family : SocketMetric → Described
 socket_family socket.Buffer = gauge (codes "socket_buffer_bytes") (codes "The receive buffer that the system granted to the socket.")
 socket_family socket.Dropped = counter (codes "socket_drops_total") (codes "Datagrams that the system dropped because the socket's receive buffer was full.")
+
+-- How many datagrams were dropped, if so many were before and the system, which counts up to 32 bits, shows this number: it
+-- went on from there by fewer than 2 ^ 31, or else nothing is known.
+abbrev pub counted_on : ℕ → ℕ → ℕ
+counted_on before more = if nat_lt more (2 ^ 31) && nat_lt (before + more) (2 ^ 64) then before + more else before
+
+abbrev pub dropped_so_far : ℕ → ℕ → ℕ
+dropped_so_far before shown = counted_on before ((shown + 2 ^ 32 - before % 2 ^ 32) % 2 ^ 32)
 
 abbrev pub socket_value : SocketMetric → SocketReading → Value
 socket_value socket.Buffer reading = Count reading.buffer

@@ -58,6 +58,6 @@ pub use own_process::ProcessReading;
 pub use program_metrics::{ProgramMetric, ProgramReading, VERSION};
 pub use realm_numbers::{RealmNumbers, realm_family};
 pub use reason::Reason;
-pub use socket_numbers::{SocketMetric, SocketReading};
+pub use socket_numbers::{SocketMetric, SocketReading, dropped_by};
 pub use system_files::{SystemFiles, count_own_descriptors, read_system_file};
 pub use value::Value;

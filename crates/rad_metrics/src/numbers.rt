@@ -14,14 +14,15 @@ use rad_desk::{Worker, WorkerReport};
 use rad_realms::{Config, Endpoint};
 use std::alloc::{AllocError, Global};
 use std::collections::BTreeMap;
+use std::sync::Wait;
 use std::sync::atomic::{AtomicU64, Ordering};
 use std::time::{Clock, Instant, SystemTime, UNIX_EPOCH};
 
 /// How many milliseconds the clock of the day may move against the other one before that counts as a step.
 const STEP: u64 = 1000;
 
-/// What the workers of a configuration reported. Reporting takes no memory, except for the socket of
-/// [`Numbers::bound`], and waits for no lock.
+/// What the workers of a configuration reported. Reporting takes no memory and waits for no lock, except for the socket of
+/// [`Numbers::bound`].
 #[derive(Drop)]
 pub struct Numbers<'a, R> {
     rt: &'a R,
@@ -143,6 +144,14 @@ impl<'a, R: Clock> Numbers<'a, R> {
     }
 }
 
+impl<R: Wait> Numbers<'_, R> {
+    /// Records that a worker's socket is bound to this address and port, after `place` others of the same worker, with a
+    /// receive buffer of `buffer` octets.
+    pub fn bound(&self, worker: Worker, place: usize, at: Endpoint, buffer: u32) {
+        self.sockets.bound(self.rt, worker, place, at, buffer);
+    }
+}
+
 impl<R> Numbers<'_, R> {
     fn turn_word(&self, row: usize) -> Option<&AtomicU64> {
         self.turns.get(row.checked_mul(APART)?)
@@ -189,11 +198,6 @@ impl<R> Numbers<'_, R> {
             Some(home) => home.is_asked(),
             None => false,
         }
-    }
-
-    /// Records that a worker's socket is bound to this address and port, with a receive buffer of `buffer` octets.
-    pub fn bound(&self, worker: Worker, at: Endpoint, buffer: u32) {
-        self.sockets.bound(worker, at, buffer);
     }
 
     /// Returns what is counted.

@@ -4,7 +4,7 @@
 
 ghost use Rattle.std.specs.Prelude.{◌≡◌};
 ghost use Rattle.rad_metrics.specs.Families.{described_by};
-ghost use Rattle.rad_metrics.specs.Metrics.{socket_family, socket_value};
+ghost use Rattle.rad_metrics.specs.Metrics.{socket_family, socket_value, dropped_so_far};
 
 use crate::family::{Family, Kind, families};
 use crate::value::Value;
@@ -77,19 +77,17 @@ impl SocketNumbers {
         }
     }
 
-    /// Records that a worker's socket is bound to this address and port, with this receive buffer. A socket is omitted
-    /// if memory for it is refused, or while the sockets are being read.
-    pub(crate) fn bound(&self, worker: Worker, at: Endpoint, buffer: u32) {
-        let Some(mut sockets) = self.sockets.try_lock() else {
-            return;
-        };
-        let mut place = 0_usize;
-        for socket in sockets.iter() {
-            if socket.worker == worker {
-                place = place.saturating_add(1);
-            }
-        }
-        let _ = sockets.push(SocketReading {
+    /// Records that a worker's socket is bound to this address and port, after `place` others of the same worker, with this
+    /// receive buffer. It waits while the sockets are being read. A socket is omitted if memory for it is refused.
+    pub(crate) fn bound<S: Wait>(
+        &self,
+        rt: &S,
+        worker: Worker,
+        place: usize,
+        at: Endpoint,
+        buffer: u32,
+    ) {
+        let _ = self.sockets.lock(rt).push(SocketReading {
             worker,
             place,
             at,
@@ -98,7 +96,8 @@ impl SocketNumbers {
         });
     }
 
-    /// Replaces `readings` with those of all sockets, with what a table of the system reports of each.
+    /// Replaces `readings` with those of all sockets, with what a table of the system reports of each. What it does not
+    /// report of a socket stays as it was.
     ///
     /// # Errors
     ///
@@ -110,22 +109,36 @@ impl SocketNumbers {
         readings: &mut Vec<SocketReading>,
     ) -> Result<(), AllocError> {
         readings.clear();
-        let sockets = self.sockets.lock(rt);
-        for socket in sockets.iter() {
-            let dropped = dropped_at(table, socket.at).unwrap_or(0);
-            readings.push(SocketReading { dropped, ..*socket })?;
+        let mut sockets = self.sockets.lock(rt);
+        for socket in sockets.iter_mut() {
+            if let Some(shown) = dropped_at(table, socket.at) {
+                socket.dropped = dropped_by(socket.dropped, shown);
+            }
+            readings.push(*socket)?;
         }
         Ok(())
     }
 }
 
-/// Returns how many datagrams were dropped, by a table, at the socket that is bound to `at`.
-pub(crate) fn dropped_at(table: &str, at: Endpoint) -> Option<u64> {
+/// Returns how many datagrams were dropped so far at a socket, of which `before` are known, if the system shows this
+/// number of them. The system counts up to 32 bits and then from 0 again. A number that falls otherwise changes nothing.
+pub fn dropped_by(before: u64, shown: u32) -> u64
+    ensures { result ≡ dropped_so_far before shown }
+{
+    let more = (u64::from(shown) + (1 << 32) - before % (1 << 32)) % (1 << 32);
+    match before.checked_add(more) {
+        Some(sum) if more < 1 << 31 => sum,
+        _ => before,
+    }
+}
+
+/// Returns how many datagrams a table shows as dropped at the socket that is bound to `at`, if it has a line of that.
+pub(crate) fn dropped_at(table: &str, at: Endpoint) -> Option<u32> {
     for line in table.lines() {
         let mut words = line.split_ascii_whitespace();
         let _ = words.next();
         if words.next().and_then(read_endpoint) == Some(at) {
-            return words.last()?.parse::<u64>().ok();
+            return words.last()?.parse::<u32>().ok();
         }
     }
     None

@@ -1,16 +1,25 @@
 //! What the program needs of the system, and of the machine that it runs on.
 
 use rad_addresses::{LocalAddresses, read_local_addresses};
+use rad_console::read_at_most;
 use rad_metrics::{SystemFiles, count_own_descriptors, read_system_file};
+use rad_server::PortSettings;
 use rad_telemetry::{ReplaceFile, RuntimeFiles, TraceFault, TraceText, read_trace_text};
 use rad_writer::{LedgerDisk, RuntimeDisk};
 use std::alloc::{AllocGlobal, Global};
-use std::fs::{Files, OpenFile};
+use std::env::{self, Env, VarError};
+use std::fs::{self, Files, OpenFile};
 use std::io::{self, Read, Write};
 use std::random::RandomSource;
 use std::rt::Runtime;
 use std::sync::Wait;
 use std::thread::Threads;
+
+/// The environment variable that pins the ports that the lanes send from.
+const SOURCE_PORTS: &str = "RAD_PROXY_SOURCE_PORTS";
+
+/// The most octets that are read of a setting of Linux: more than any list of 65,536 ports has.
+const MOST_SETTING_OCTETS: u64 = 1 << 20;
 
 /// A runtime that the program runs on. `Net` is no part of it, so each function that serves names it too: nothing that
 /// has its sockets by way of another trait can be given to a thread.
@@ -31,7 +40,7 @@ where
 
 /// A machine of which threads read, and on which they write. They write with types that are known in `main`, since nothing
 /// that has its files by way of a bound can be given to a thread.
-pub trait Machine: LocalAddresses + SystemFiles + TraceText + Sync {
+pub trait Machine: LocalAddresses + PortSettings + SystemFiles + TraceText + Sync {
     /// What replaces the file of the counters.
     type Files: ReplaceFile + Drop + Send + 'static;
 
@@ -57,7 +66,7 @@ impl<R> RuntimeMachine<R> {
 
 impl<R, F> Machine for RuntimeMachine<R>
 where
-    R: Files<File = F> + AllocGlobal + RandomSource + Sync + Copy + Send + 'static,
+    R: Files<File = F> + AllocGlobal + Env + RandomSource + Sync + Copy + Send + 'static,
     F: Read + Write + OpenFile + Drop + Send + 'static,
 {
     type Files = RuntimeFiles<R>;
@@ -80,6 +89,19 @@ where
     /// Reads the addresses as [`read_local_addresses`] does.
     fn read(&self, alloc: Global) -> io::Result<Vec<[u8; 4]>> {
         read_local_addresses(&self.rt, alloc)
+    }
+}
+
+impl<R: Files + Env + AllocGlobal> PortSettings for RuntimeMachine<R>
+where
+    R::File: Drop,
+{
+    fn pinned(&self) -> Result<String, VarError> {
+        env::var(&self.rt, SOURCE_PORTS)
+    }
+
+    fn setting(&self, alloc: Global, path: &str) -> io::Result<Vec<u8>> {
+        read_at_most(alloc, fs::open(&self.rt, path)?, MOST_SETTING_OCTETS)
     }
 }
 

@@ -13,7 +13,7 @@ use rad_realms::Config;
 use rad_server::{Descriptors, ServeFault, Streams, run_with};
 use rad_telemetry::{
     CounterTexts, LedgerState, StopFlag, Telemetry, Tracer, find_counter_file, find_trace_file,
-    log_fault, report, start_texts,
+    report, start_texts,
 };
 use rad_writer::{LedgerInlet, OpenedLedger, find_folder, open_ledger, start_writer};
 use std::alloc::{AllocError, Global};
@@ -142,9 +142,7 @@ impl<'a, H: Host + Net, M: Machine> Service<'a, H, M> {
         self.texts.end();
         self.texts
             .wait(self.rt, start, Duration::from_millis(LAST_TEXT));
-        if let Some(fault) = self.texts.take_fault(self.rt) {
-            log_fault(self.log, fault);
-        }
+        self.texts.tell_faults(self.rt, self.log);
         self.log
             .sink()
             .end(self.rt, start, Duration::from_millis(LAST_LINES));

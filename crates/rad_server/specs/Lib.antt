@@ -1,1 +1,2 @@
 pub mod internal
+pub mod Ports

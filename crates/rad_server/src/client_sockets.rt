@@ -127,6 +127,6 @@ pub(crate) fn fault_at<G: SocketReports>(
     error: &Error,
     gate: &G,
 ) -> ServeFault {
-    gate.unbound(at, error);
+    gate.unbound(at, 0, error);
     ServeFault::Listen(listen).or_memory(error)
 }

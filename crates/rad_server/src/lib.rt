@@ -25,6 +25,7 @@ mod neighbours;
 mod notifying;
 mod outbox;
 mod polling;
+mod port_range;
 mod printing;
 mod raw_sockets;
 mod ready_socket;
@@ -33,6 +34,7 @@ mod serving;
 mod sleeping;
 mod socket_reports;
 mod sockets;
+mod source_ports;
 mod streams;
 mod supervising;
 mod threads;
@@ -45,7 +47,11 @@ pub use bounds::{Host, OwnedLedger, OwnedWire, SharedGate};
 pub use faults::ServeFault;
 pub use interrupting::Interruptible;
 pub use notifying::{Notifier, Notifiers};
+pub use port_range::{
+    PortRange, PortsFault, choose_port, is_kept, read_pinned, read_reserved, read_system_range,
+};
 pub use serving::{run, run_with, serve, serve_with};
 pub use socket_reports::SocketReports;
+pub use source_ports::PortSettings;
 pub use streams::{Descriptors, Streams};
 pub use wiring::{NotifiedWires, Wires};

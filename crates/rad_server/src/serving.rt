@@ -11,6 +11,7 @@ use crate::notifying::Notifiers;
 use crate::printing::Output;
 use crate::socket_reports::SocketReports;
 use crate::sockets::BoundSockets;
+use crate::source_ports::PortSettings;
 use crate::streams::{Descriptors, Streams};
 use crate::supervising::Supervisor;
 use crate::threads::{FrontEnd, Worked, work};
@@ -30,8 +31,8 @@ use std::random::RandomSource;
 ///
 /// If the reader reads from a descriptor, so that a read may wait, a worker that ends by itself ends that wait. If the
 /// writer writes to a descriptor, so that a write may wait, the input is watched during the wait. From the end of the
-/// input on the lanes are drained, and the writer is waited for no longer than `linger`. If all addresses of the
-/// machine are served, `addresses` says which these are.
+/// input on the lanes are drained, and the writer is waited for no longer than `linger`. `machine` says which ports the
+/// lanes send from, and if all addresses of the machine are served which these are.
 ///
 /// # Errors
 ///
@@ -39,7 +40,7 @@ use std::random::RandomSource;
 /// and otherwise as [`serve`].
 pub fn run<R, A, G, I, O>(
     rt: &R,
-    addresses: &A,
+    machine: &A,
     alloc: Global,
     config: &Config,
     gate: &G,
@@ -49,7 +50,7 @@ pub fn run<R, A, G, I, O>(
 ) -> Result<EndLine, ServeFault>
 where
     R: Host + Net + RandomSource,
-    A: LocalAddresses + Sync,
+    A: LocalAddresses + PortSettings + Sync,
     G: SharedGate + SocketReports,
     I: Read + Drop,
     O: Write + Drop,
@@ -60,7 +61,7 @@ where
         writer,
         descriptors,
     };
-    run_with(rt, addresses, alloc, config, gate, NoLedger, streams)
+    run_with(rt, machine, alloc, config, gate, NoLedger, streams)
 }
 
 /// Serves a configuration over UDP as [`run`] does, and keeps its responses in a ledger.
@@ -74,7 +75,7 @@ where
 /// up.
 pub fn run_with<R, A, G, L, I, O>(
     rt: &R,
-    addresses: &A,
+    machine: &A,
     alloc: Global,
     config: &Config,
     gate: &G,
@@ -83,7 +84,7 @@ pub fn run_with<R, A, G, L, I, O>(
 ) -> Result<EndLine, ServeFault>
 where
     R: Host + Net + RandomSource,
-    A: LocalAddresses + Sync,
+    A: LocalAddresses + PortSettings + Sync,
     G: SharedGate + SocketReports,
     L: OwnedLedger,
     I: Read + Drop,
@@ -99,9 +100,9 @@ where
     output.add(&ListeningLine {
         endpoint: config.listen(),
     })?;
-    let sockets = BoundSockets::bind(rt, addresses, alloc, config, gate)?;
+    let sockets = BoundSockets::bind(rt, machine, alloc, config, gate)?;
     sockets.tell(gate);
-    let maker = WireMaker::new(rt, addresses, alloc, gate)?;
+    let maker = WireMaker::new(rt, machine, alloc, gate)?;
     let sleepers = maker.make_sleepers(config)?;
     let reader = make_reader(rt, alloc, reader, descriptors.input)?;
     let notifiers = sleepers.notifiers(alloc, config.homes(), &reader)?;

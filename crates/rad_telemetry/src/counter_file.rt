@@ -207,7 +207,7 @@ pub fn find_counter_file<R: Env + AllocGlobal, L: Log>(
 }
 
 /// Logs that the counters are not written, and why.
-pub fn log_fault<L: Log>(log: &L, fault: FileFault) {
+fn log_fault<L: Log>(log: &L, fault: FileFault) {
     warn_of_reason(log, FAULT, &fault);
 }
 
@@ -219,14 +219,41 @@ pub struct CounterTexts {
     state: WriterState,
 }
 
-/// The text to be written next, and the result of the last one.
+/// The text to be written next, and what is wrong with the last ones.
 #[derive(Drop)]
 struct NextText {
     text: Vec<u8>,
     is_new: bool,
+    /// What became of the text that was left last.
+    newest: Newest,
+    /// Whether texts take longer than a second.
+    late: Lasting,
+    /// Why the last text that was tried was not written, if it was not.
     fault: Option<FileFault>,
     /// Whether that fault was returned.
     is_told: bool,
+}
+
+/// What became of the text that was left last.
+#[derive(Clone, Copy, PartialEq, Eq)]
+enum Newest {
+    /// It was written, or the system refused it. So it is if there was none.
+    Tried,
+    /// It was left less than a second ago.
+    InTime,
+    /// It was left a second ago or earlier, and was neither written nor refused by then.
+    Overdue,
+}
+
+/// Whether something lasts, and was told since it began.
+#[derive(Clone, Copy, PartialEq, Eq)]
+enum Lasting {
+    /// It does not.
+    Over,
+    /// It does, and was not told.
+    Untold,
+    /// It does, and was told.
+    Told,
 }
 
 impl CounterTexts {
@@ -236,6 +263,8 @@ impl CounterTexts {
             next: Mutex::new(NextText {
                 text: Vec::new(alloc),
                 is_new: false,
+                newest: Newest::Tried,
+                late: Lasting::Over,
                 fault: None,
                 is_told: false,
             }),
@@ -243,16 +272,26 @@ impl CounterTexts {
         }
     }
 
-    /// Leaves a text to the thread. If the thread has not taken the last one, this replaces it, which is the fault
-    /// `Late`. `text` gets the memory of an earlier text.
+    /// Leaves a text to the thread. If the thread has not taken the last one, this replaces it. `text` gets the memory of
+    /// an earlier text.
     pub fn leave<R: Wait>(&self, rt: &R, text: &mut Vec<u8>) {
         self.next.lock(rt).set(text);
         self.state.notify();
     }
 
-    /// Returns why the last text was not written, if it was not and this was not returned before.
-    pub fn take_fault<R: Wait>(&self, rt: &R) -> Option<FileFault> {
-        self.next.lock(rt).take_fault()
+    /// Notes that a second has passed since the last text was left. If that is neither written nor refused, texts are late
+    /// from now on, until one is written within its second.
+    pub fn pass_second<R: Wait>(&self, rt: &R) {
+        self.next.lock(rt).pass_second();
+    }
+
+    /// Logs what is wrong with the texts and was not logged since it began: that they are late, and why the last one that
+    /// was tried was not written.
+    pub fn tell_faults<R: Wait, L: Log>(&self, rt: &R, log: &L) {
+        let [late, fault] = self.next.lock(rt).take_faults();
+        for fault in [late, fault].iter().flatten() {
+            log_fault(log, *fault);
+        }
     }
 
     /// Writes the texts to a file as they come, until the last one is written. The thread does nothing else.
@@ -268,7 +307,7 @@ impl CounterTexts {
             let is_last = self.state.begin_round();
             if self.next.lock(rt).take(&mut text) {
                 let outcome = files.replace(path, text.as_slice());
-                self.next.lock(rt).set_fault(outcome.err());
+                self.next.lock(rt).finish(outcome.err());
             }
             if is_last {
                 self.state.finish();
@@ -316,11 +355,19 @@ where
 
 impl NextText {
     fn set(&mut self, text: &mut Vec<u8>) {
-        if self.is_new {
-            self.set_fault(Some(FileFault::Late));
-        }
         mem::swap(&mut self.text, text);
         self.is_new = true;
+        self.newest = Newest::InTime;
+    }
+
+    fn pass_second(&mut self) {
+        if self.newest == Newest::Tried {
+            return;
+        }
+        self.newest = Newest::Overdue;
+        if self.late == Lasting::Over {
+            self.late = Lasting::Untold;
+        }
     }
 
     /// Takes the text, and returns whether there was one.
@@ -333,18 +380,31 @@ impl NextText {
         is_new
     }
 
-    fn set_fault(&mut self, fault: Option<FileFault>) {
+    /// Notes how the text that was taken last ended. If no other one was left meanwhile, it is the newest.
+    fn finish(&mut self, fault: Option<FileFault>) {
         if self.fault != fault {
             self.fault = fault;
             self.is_told = false;
         }
+        if self.is_new {
+            return;
+        }
+        if self.newest == Newest::InTime && fault.is_none() {
+            self.late = Lasting::Over;
+        }
+        self.newest = Newest::Tried;
     }
 
-    fn take_fault(&mut self) -> Option<FileFault> {
-        if self.is_told {
-            return None;
-        }
+    /// Returns what was not returned since it began: that texts are late, and the fault.
+    fn take_faults(&mut self) -> [Option<FileFault>; 2] {
+        let late = if self.late == Lasting::Untold {
+            self.late = Lasting::Told;
+            Some(FileFault::Late)
+        } else {
+            None
+        };
+        let fault = if self.is_told { None } else { self.fault };
         self.is_told = true;
-        self.fault
+        [late, fault]
     }
 }

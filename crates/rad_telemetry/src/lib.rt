@@ -26,7 +26,7 @@ mod tracer;
 mod workers;
 
 pub use counter_file::{
-    CounterTexts, FileFault, ReplaceFile, RuntimeFiles, find_counter_file, log_fault, start_texts,
+    CounterTexts, FileFault, ReplaceFile, RuntimeFiles, find_counter_file, start_texts,
 };
 pub use left_log::LeftLog;
 pub use packet_words::PacketWords;

@@ -1,7 +1,7 @@
 //! The reports of a separate thread, once a second: what was counted since the last one as log lines, and all
 //! counters for a file.
 
-use crate::counter_file::{CounterTexts, log_fault};
+use crate::counter_file::CounterTexts;
 use crate::sums::Sums;
 use crate::trace_file::{TraceLook, TraceText};
 use crate::tracer::Tracer;
@@ -126,6 +126,9 @@ where
         reporter.look(rt, system, look);
     }
     reporter.log_sums();
+    if !is_last {
+        reporter.pass_second(rt);
+    }
     reporter.leave_text(rt, system, draft);
     is_last
 }
@@ -156,15 +159,20 @@ impl<L: Log, R> Reporter<'_, L, R> {
 }
 
 impl<L: Log, R: Clock> Reporter<'_, L, R> {
+    /// Tells what writes the texts that a second has passed since it was left the last one.
+    fn pass_second<S: Wait>(&self, rt: &S) {
+        if let Some(texts) = self.texts {
+            texts.pass_second(rt);
+        }
+    }
+
     /// Leaves a text of all numbers to the thread that writes it to their file, if there is one. It also logs, once,
-    /// why an earlier text was not written.
+    /// why an earlier text was not written, or is late.
     fn leave_text<S: Wait, U: SystemFiles>(&self, rt: &S, system: &U, draft: &mut Draft) {
         let Some(texts) = self.texts else {
             return;
         };
-        if let Some(fault) = texts.take_fault(rt) {
-            log_fault(self.log, fault);
-        }
+        texts.tell_faults(rt, self.log);
         if draft.read(rt, system, self.numbers).is_ok() && self.write(draft).is_ok() {
             texts.leave(rt, draft.text());
         }

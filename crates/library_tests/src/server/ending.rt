@@ -9,8 +9,9 @@ use rad_addresses::LocalAddresses;
 use rad_console::EndLine;
 use rad_desk::Worker;
 use rad_realms::Config;
-use rad_server::{Descriptors, ServeFault, run};
+use rad_server::{Descriptors, PortSettings, ServeFault, run};
 use std::alloc::Global;
+use std::env::VarError;
 use std::io::{self, Error, ErrorKind, Read};
 use std::net::{Ipv4Addr, Net, SocketAddr, UdpSocket};
 use std::os::fd::AsRawFd;
@@ -50,13 +51,24 @@ const LISTENING: &[u8] = b"listening 127.0.0.1:1815\n";
 /// The most times that a reader looks whether a request is accepted, a millisecond apart.
 const LOOKS: u32 = 10_000;
 
-/// A machine without addresses. They are not read, since no configuration here listens at all addresses.
+/// A machine without addresses and without settings. They are not read, since no configuration here listens at all
+/// addresses, and the system has ports.
 #[derive(Clone, Copy)]
 struct NoAddresses;
 
 impl LocalAddresses for NoAddresses {
     fn read(&self, alloc: Global) -> io::Result<Vec<[u8; 4]>> {
         Ok(Vec::new(alloc))
+    }
+}
+
+impl PortSettings for NoAddresses {
+    fn pinned(&self) -> Result<String, VarError> {
+        Err(VarError::NotPresent)
+    }
+
+    fn setting(&self, _alloc: Global, _path: &str) -> io::Result<Vec<u8>> {
+        Err(Error::from(ErrorKind::NotFound))
     }
 }
 
