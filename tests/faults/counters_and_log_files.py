@@ -294,7 +294,7 @@ def a_late_text_is_told_once(trial):
             until("a new text", lambda: trial.counters.exists() and trial.counters.stat().st_ino != before)
         time.sleep(1.5)
         hope(f"what it tells of texts of {milliseconds} ms", trial.log_lines(), [LATE])
-        trial.ends()
+        hope("status", trial.end(), 0)
         hope("what it tells at the end", trial.log_lines(), [LATE])
         trial.log.unlink()
         trial.counters.unlink()
@@ -305,7 +305,7 @@ def texts_in_time_are_not_told_late(trial):
     for wait in (2.2, 2.5, 2.8):
         trial.begin(RAD_PROXY_COUNTERS=str(trial.counters), **trial.slowed(SLOW_PATH=str(trial.folder), SLOW_OPEN=700))
         time.sleep(wait)
-        trial.ends()
+        hope("status", trial.end(), 0)
         hope("what it tells", trial.log_lines(), [])
         trial.counters.unlink()
 
@@ -328,7 +328,7 @@ def late_texts_are_told_again(trial):
     until("it tells the other fault", lambda: trial.log_lines() == [LATE, LATE, no_file])
     trial.counters.rmdir()
     time.sleep(5)
-    trial.ends()
+    hope("status", trial.end(), 0)
     hope("what it tells", trial.log_lines(), [LATE, LATE, no_file])
 
 
@@ -337,7 +337,7 @@ def late_texts_that_are_refused(trial):
     slow = trial.slowed(SLOW_PATH=str(trial.folder), SLOW_OPEN=1500)
     trial.begin(RAD_PROXY_COUNTERS=str(trial.folder / "none" / "counters"), **slow)
     time.sleep(8)
-    trial.ends()
+    hope("status", trial.end(), 0)
     hope("what it tells", trial.log_lines(), [LATE, FAULT.format("not written")])
 
 

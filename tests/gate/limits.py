@@ -109,7 +109,7 @@ NUMBERS = {
     "rad_server/src/printing.rt": {"LINE": ("256", CHOICE)},
     "rad_server/src/raw_sockets.rt": {"ADDRESS_OCTETS": ("16", FORM)},
     "rad_server/src/sleeping.rt": {"SLEEP": ("20", f"{WAKES} an_idle_worker_looks_again_after_twenty_milliseconds"), "EVENTS": ("8", CHOICE)},
-    "rad_server/src/source_ports.rt": {"MOST_DRAWN": ("300", "network/source_ports test_none_is_left")},
+    "rad_server/src/source_ports.rt": {"MOST_TRIED": ("300", "network/source_ports test_none_is_left"), "MOST_DRAWN": ("10_000", CHOICE)},
     "rad_server/src/sockets.rt": {"BUFFER": ("1 << 20", "faults/closed_descriptors BUFFERS")},
     "rad_server/src/streams.rt": {"LOOK": ("20", CHOICE), "MOST": ("4096", CHOICE), "MOST_OF_TERMINAL": ("1", CHOICE)},
     "rad_tables/src/moment.rt": {"LONGEST_WAIT": ("120_000", PROVED)},

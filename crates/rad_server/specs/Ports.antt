@@ -3,7 +3,7 @@ use Rattle.std.specs.Prelude.{ℕ, suc, ◌+◌, ◌%◌, ◌-◌, ◌<◌, ◌�
 use Rattle.std.specs.List.{list_any, filter_map, slice_split}
 use Rattle.std.specs.Str.{trim_end}
 use Rattle.std.specs.Fmt.{decimal}
-use Rattle.rad_realms.specs.Address.{◌>>=◌, number_in, around_first}
+use Rattle.rad_config.specs.Address.{◌>>=◌, number_in, around_first}
 use Rattle.rad_server.specs.declared.port_range.PortRange.{PortRange}
 use Rattle.rad_server.specs.declared.port_range.PortsFault.{PortsFault}
 use Rattle.rad_server.specs.declared.port_range.PortsFault.TheVariants.{NoText, NoRange, TooFew}

@@ -4,7 +4,7 @@ ghost use Rattle.std.specs.Prelude.{◌≡◌, ◌<◌, ◌≤◌, ◌^◌, true
 ghost use Rattle.std.specs.List.{list_all};
 ghost use Rattle.std.specs.Char.{is_ascii_digit};
 ghost use Rattle.std.specs.Str.Parse.{digits_value};
-ghost use Rattle.rad_realms.specs.Address.{is_number, number_in, around_first};
+ghost use Rattle.rad_config.specs.Address.{is_number, number_in, around_first};
 ghost use Rattle.rad_server.specs.Ports.{range_around, pinned_by, range_of_system, reserved_item, reserved_in, holds, is_usual, is_kept, candidate, IsOutside};
 
 use std::alloc::{AllocError, Global};

@@ -6,6 +6,7 @@ use crate::port_range::{
     PortRange, PortsFault, choose_port, is_kept, read_pinned, read_reserved, read_system_range,
 };
 use crate::sockets::{ANY, bind};
+use libc::EADDRINUSE;
 use rad_realms::{Endpoint, Home};
 use rand::rngs::StdRng;
 use rand::{Rng, make_rng};
@@ -21,8 +22,11 @@ const RANGE: &str = "/proc/sys/net/ipv4/ip_local_port_range";
 /// The file in which it lists the ports that it never chooses.
 const RESERVED: &str = "/proc/sys/net/ipv4/ip_local_reserved_ports";
 
-/// The most random ports that are drawn for a socket.
-const MOST_DRAWN: u32 = 300;
+/// The most random ports that are tried for a socket.
+const MOST_TRIED: u32 = 300;
+
+/// The most that are drawn for it, with those that are left to others.
+const MOST_DRAWN: u32 = 10_000;
 
 /// What says which ports the lanes send from.
 pub trait PortSettings {
@@ -146,7 +150,7 @@ impl<'a, R: Net + RandomSource, S: PortSettings> SourcePorts<'a, R, S> {
 
     /// Binds a socket to the next free port of a range.
     fn bind_pinned(&mut self, left: PortsLeft) -> io::Result<UdpSocket> {
-        let mut last = Error::from(ErrorKind::AddrInUse);
+        let mut last = Error::from_raw_os_error(EADDRINUSE);
         for port in left.next..u32::from(left.last) + 1 {
             self.pinned = Some(PortsLeft {
                 next: port + 1,
@@ -163,8 +167,12 @@ impl<'a, R: Net + RandomSource, S: PortSettings> SourcePorts<'a, R, S> {
     /// Binds a socket to a random port outside of the system's range, for which it has this error.
     fn bind_other(&mut self, error: Error) -> io::Result<UdpSocket> {
         self.refused = self.refused.saturating_add(1);
+        let most = self.tried.saturating_add(MOST_TRIED);
         let mut last = error;
         for _ in 0..MOST_DRAWN {
+            if self.tried == most {
+                break;
+            }
             let Some(port) = self.draw()? else {
                 continue;
             };
