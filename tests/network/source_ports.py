@@ -324,8 +324,8 @@ def test_refused_values(program, folder):
             lines = [f"level=error event=source-ports-fault reason=\"{NO_RANGE}\"", "socket: lane 0"]
             hope(f"what it tells of {value}", trial.fails(RAD_PROXY_SOURCE_PORTS=value), lines)
         for value, ports in [("20000-20002", 3), ("20000-20000", 1)]:
-            reason = f"RAD_PROXY_SOURCE_PORTS has {ports} ports, and the lanes need 4"
-            lines = [f"level=error event=source-ports-fault reason=\"{reason}\"", "socket: lane 0"]
+            reason = "RAD_PROXY_SOURCE_PORTS has fewer ports than the lanes need"
+            lines = [f"level=error event=source-ports-fault ports={ports} needed=4 reason=\"{reason}\"", "socket: lane 0"]
             hope(f"what it tells of {value}", trial.fails(RAD_PROXY_SOURCE_PORTS=value), lines)
         lines = ['level=error event=source-ports-fault reason="RAD_PROXY_SOURCE_PORTS is no text"', "socket: lane 0"]
         hope("what it tells of no text", trial.fails(RAD_PROXY_SOURCE_PORTS=os.fsdecode(b"20000-20003\xff")), lines)

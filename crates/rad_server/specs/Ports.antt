@@ -1,8 +1,7 @@
 -- The UDP ports that the sockets of the lanes are bound to (own).
-use Rattle.std.specs.Prelude.{ℕ, suc, ◌+◌, ◌%◌, ◌-◌, ◌<◌, ◌≤◌, List, [], ◌∷◌, ◌++◌, codes, Option, Some, None, Bool, ◌&&◌, ◌||◌, ◌==◌, nat_lt, nat_le, if◌then◌else◌, Result, Ok, Err, ◌⊎◌}
+use Rattle.std.specs.Prelude.{ℕ, ◌+◌, ◌%◌, ◌-◌, ◌<◌, ◌≤◌, List, [], ◌∷◌, codes, Option, Some, None, Bool, ◌&&◌, ◌||◌, ◌==◌, nat_lt, nat_le, if◌then◌else◌, Result, Ok, Err, ◌⊎◌}
 use Rattle.std.specs.List.{list_any, filter_map, slice_split}
 use Rattle.std.specs.Str.{trim_end}
-use Rattle.std.specs.Fmt.{decimal}
 use Rattle.rad_config.specs.Address.{◌>>=◌, number_in, around_first}
 use Rattle.rad_server.specs.declared.port_range.PortRange.{PortRange}
 use Rattle.rad_server.specs.declared.port_range.PortsFault.{PortsFault}
@@ -41,8 +40,7 @@ pinned_by (octet ∷ text) needed = with_enough needed (range_around 1 45 (octet
 abbrev pub fault_words : PortsFault → List ℕ
 fault_words NoText = codes "RAD_PROXY_SOURCE_PORTS is no text"
 fault_words NoRange = codes "RAD_PROXY_SOURCE_PORTS is no FIRST-LAST of ports from 1 to 65535"
-fault_words (TooFew ports needed) =
-    codes "RAD_PROXY_SOURCE_PORTS has " ++ decimal ports ++ codes " ports, and the lanes need " ++ decimal needed
+fault_words (TooFew ports needed) = codes "RAD_PROXY_SOURCE_PORTS has fewer ports than the lanes need"
 
 -- The range from which Linux chooses a port, by its text of ip_local_port_range: two numbers around a tab. If the text is no
 -- such one, the range that Linux has unless it is set otherwise.
@@ -61,11 +59,11 @@ single_or None range = range
 unfoldable pub reserved_item : List ℕ → Option PortRange
 reserved_item text = single_or (number_in 0 65535 text) (range_around 0 45 text)
 
-unfoldable pub reserved_in : List ℕ → List PortRange
+abbrev pub reserved_in : List ℕ → List PortRange
 reserved_in text = filter_map reserved_item (slice_split (λ octet. octet == 44) (trim_end text))
 
 -- The usual ports of RADIUS.
-abbrev pub is_usual : ℕ → Bool
+unfoldable pub is_usual : ℕ → Bool
 is_usual port =
     port == 1645 || (port == 1646 || (port == 1700 || (port == 1812 || (port == 1813 || (port == 1814 || (port == 2083 || port == 3799))))))
 
@@ -92,10 +90,8 @@ placed system place = if nat_lt place (below system) then 1024 + place else top 
 abbrev pub IsOutside : PortRange → ℕ → Type 0
 IsOutside system port = (1024 ≤ port) × (port ≤ 65535) × ((port < system.first) ⊎ (system.last < port))
 
--- The port that a random number chooses: each of these places is as likely as any other one.
-abbrev pub chosen : PortRange → ℕ → ℕ → Option ℕ
-chosen system random 0 = None
-chosen system random (suc more) = Some (placed system (random % suc more))
-
+-- The port that a random number chooses, if there is one: each place is as likely as any other one.
 abbrev pub candidate : PortRange → ℕ → Option ℕ
-candidate system random = chosen system random (below system + above system)
+candidate system random =
+    let places = below system + above system in
+    if places == 0 then None else Some (placed system (random % places))

@@ -1,7 +1,7 @@
 //! Ranges of UDP ports: reading them from texts, and which ports a lane may try.
 
 ghost use Rattle.std.specs.Prelude.{◌≡◌, ◌<◌, ◌≤◌, ◌^◌, true, ◌++◌, option_map, option_to_list, MatchOption, IfOk, IfSome, Result};
-ghost use Rattle.std.specs.List.{list_all};
+ghost use Rattle.std.specs.List.{list_all, list_any};
 ghost use Rattle.std.specs.Char.{is_ascii_digit};
 ghost use Rattle.std.specs.Str.Parse.{digits_value};
 ghost use Rattle.rad_config.specs.Address.{is_number, number_in, around_first};
@@ -79,7 +79,7 @@ pub fn read_pinned(value: &str, needed: u32) -> Result<Option<PortRange>, PortsF
     let Some(range) = read_range(1, '-', value) else {
         return Err(PortsFault::NoRange);
     };
-    let ports = u32::from(range.last - range.first) + 1;
+    let ports = u32::from(range.last.saturating_sub(range.first)) + 1;
     if ports < needed {
         return Err(PortsFault::TooFew { ports, needed });
     }
@@ -127,6 +127,7 @@ fn add_item(ranges: &mut Vec<PortRange>, item: &str) -> Result<(), AllocError>
 }
 
 /// Returns the range that an item of that list is: a port, or two with `-` between them.
+#[tactic(auto, unfolding(crate::specs::Ports::reserved_item))]
 fn read_item(item: &str) -> Option<PortRange>
     ensures { result ≡ reserved_item item.now }
 {
@@ -140,12 +141,20 @@ fn read_item(item: &str) -> Option<PortRange>
 pub fn is_kept(ranges: &[PortRange], port: u16) -> bool
     ensures { result ≡ is_kept ranges.now port }
 {
-    is_usual(port) || ranges.iter().any(|range| range.holds(port))
+    is_usual(port) || is_in_one(ranges, port)
+}
+
+/// Returns whether one of these ranges has this port.
+fn is_in_one(ranges: &[PortRange], port: u16) -> bool
+    ensures { result ≡ list_any (λ range. holds range port) ranges.now }
+{
+    ranges.iter().any(|range| range.holds(port))
 }
 
 /// Returns whether it is a port at which a server of RADIUS may be started on this machine: of authentication and accounting
 /// (1812 and 1813 by RFC 2865 and RFC 2866, 1645 and 1646 before them), that of FreeRADIUS' proxy (1814), of dynamic
 /// authorization (3799 by RFC 5176, 1700 before it), or of RADIUS over DTLS (2083 by RFC 7360).
+#[tactic(auto, unfolding(crate::specs::Ports::is_usual))]
 fn is_usual(port: u16) -> bool
     ensures { result ≡ is_usual port }
 {
@@ -196,11 +205,8 @@ impl fmt::Display for PortsFault {
             PortsFault::NoRange => f.write_str(
                 "RAD_PROXY_SOURCE_PORTS is no FIRST-LAST of ports from 1 to 65535",
             ),
-            PortsFault::TooFew { ports, needed } => {
-                write!(
-                    f,
-                    "RAD_PROXY_SOURCE_PORTS has {ports} ports, and the lanes need {needed}"
-                )
+            PortsFault::TooFew { .. } => {
+                f.write_str("RAD_PROXY_SOURCE_PORTS has fewer ports than the lanes need")
             }
         }
     }

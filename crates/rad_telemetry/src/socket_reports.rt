@@ -30,7 +30,8 @@ impl<L: Log, R: Wait> SocketReports for Telemetry<'_, L, R> {
     }
 
     fn ports_refused(&self, fault: &PortsFault) {
-        let line = format_args!("event=source-ports-fault reason=\"{fault}\"");
+        let counts = Counts(*fault);
+        let line = format_args!("event=source-ports-fault{counts} reason=\"{fault}\"");
         tell(self.events.log, Level::Error, &line);
     }
 
@@ -54,6 +55,19 @@ impl Display for Tried {
         match self.0 {
             0 => Ok(()),
             tried => write!(f, " tried={tried}"),
+        }
+    }
+}
+
+/// How many ports there are, and how many the lanes need, with a space before each, if there are too few.
+#[derive(Clone, Copy)]
+struct Counts(PortsFault);
+
+impl Display for Counts {
+    fn fmt<W: fmt::Write>(&self, f: &mut fmt::Formatter<W>) -> fmt::Result {
+        match self.0 {
+            PortsFault::TooFew { ports, needed } => write!(f, " ports={ports} needed={needed}"),
+            _ => Ok(()),
         }
     }
 }
