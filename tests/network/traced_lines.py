@@ -5,13 +5,20 @@ usage: python3 -m tests.network.traced_lines PROGRAM [TEST ..]
 The lines are those of docs/formats.md. A test is a function below; its first line says what holds. The last line is
 `N passed, M failed`.
 """
+import contextlib
 import os
+import re
 import time
 
-from tests.lib import (ACCT_SESSION_ID, HERE, SECRET, USER_NAME, Stage, attribute, best, bound, hope, is_so, need, pairs_of, reply, request,
-                       try_in_folders, turned)
+from tests.lib import (ACCT_SESSION_ID, HERE, PATIENCE, SECRET, USER_NAME, Stage, answer, attribute, best, bound, hope, is_so, need, pairs_of,
+                       reply, request, try_in_folders, turned)
 
 ELSEWHERE = "127.0.0.2"
+# How many requests a second a client sends that is traced, for how many seconds, with how many unanswered at most, so that none is lost; and
+# how many lines are logged in a second at most. A line is seen a moment after it is logged, so less than a second is looked at.
+RATE, SECONDS, UNANSWERED, MOST, LOOKED = 1000, 4, 32, 200, 0.8
+# How many lines there are of each request of a client that is answered.
+LINES = 6
 ODD, ODD_TEXT = b"S 1=\xff", "S%201%3d%FF"
 # A text of the file, and why it names nothing.
 FAULTS = [
@@ -289,9 +296,117 @@ def without_a_name_nothing_is_looked_at(program, folder):
             hope("told", [line for line in stage.proxy.log.read_text("utf-8").splitlines() if "trace" in line], told)
 
 
+class Load:
+    """A client's requests, so many a second, which a home server answers, and how many lines are traced meanwhile."""
+
+    def __init__(self, tracing):
+        self.tracing, self.sent, self.answered, self.seen = tracing, 0, 0, [(time.monotonic(), 0)]
+        self.log = tracing.stage.proxy.log.open("rb")
+        self.nas, self.ear = tracing.stage.nas.socket, tracing.stage.homes[0].ear
+        for each in (self.nas, self.ear):
+            each.setblocking(False)
+
+    def run(self, seconds):
+        """Sends for so long, and until all are answered."""
+        begun, before = time.monotonic(), self.sent
+        while (passed := time.monotonic() - begun) < seconds or self.answered < self.sent:
+            need(passed < seconds + PATIENCE, "answered are", self.answered, "of", self.sent)
+            while passed < seconds and self.sent - before < RATE * passed and self.sent - self.answered < UNANSWERED:
+                self.tracing.asks(self.sent % 256, session=f"S{self.sent}".encode())
+                self.sent += 1
+            self.serve()
+            if time.monotonic() > self.seen[-1][0] + 0.01:
+                self.look()
+            time.sleep(0.0005)
+
+    def serve(self):
+        with contextlib.suppress(BlockingIOError):
+            while True:
+                octets, sender = self.ear.recvfrom(4096)
+                self.ear.sendto(answer(octets, octets[1], octets[-12:], SECRET), sender)
+        with contextlib.suppress(BlockingIOError):
+            while self.nas.recv(4096):
+                self.answered += 1
+
+    def look(self):
+        """Keeps how many lines of what is traced there are at this moment."""
+        more = len(re.findall(rb" trace=[0-9]+\n", self.log.read()))
+        self.seen.append((time.monotonic(), self.seen[-1][1] + more))
+
+    def most(self):
+        """The most lines that came in less than a second."""
+        return max(after - before for first, before in self.seen for last, after in self.seen if 0 <= last - first <= LOOKED)
+
+    def count(self):
+        """How many lines of what is traced there are now."""
+        self.look()
+        return self.seen[-1][1]
+
+    def left_out(self):
+        """How many lines were left out each time that it was told, and that nothing else is in these lines."""
+        told = [line for line in self.tracing.log() if "trace-left-out" in line]
+        counts = [re.fullmatch("level=info event=trace-left-out count=([0-9]+)", line) for line in told]
+        need(all(counts), "not as it should be:", told)
+        return [int(found[1]) for found in counts]
+
+
+def at_most_200_lines_a_second(program, folder):
+    """Of a thousand requests a second of a client at most 200 lines are logged in a second, and how many were left out is told, so that
+    together they are all. A burst and a pause later each line is there again."""
+
+    def most(number):
+        room = folder / str(number)
+        room.mkdir()
+        with Tracing(program, room, limits="first_wait = 60000\n") as tracing:
+            tracing.name(f"client {HERE}\n".encode(), "level=info event=trace count=1")
+            load = Load(tracing)
+            load.run(SECONDS)
+            time.sleep(2.5)
+            logged, left_out = load.count(), load.left_out()
+            hope("logged and left out", logged + sum(left_out), LINES * load.sent)
+            need(0 < len(left_out) <= SECONDS + 3, "how many lines tell it:", left_out)
+            need(logged >= MOST * (SECONDS - 1), "logged are only", logged)
+            tracing.stage.nas.socket.settimeout(PATIENCE)
+            tracing.stage.homes[0].ear.settimeout(PATIENCE)
+            tracing.asks(7)
+            tracing.is_answered()
+            need(is_so(lambda: load.count() == logged + LINES), "of one more request there are", load.count() - logged)
+            _, _, status = tracing.stage.ends()
+            hope("status, and left out at the end", (status, load.left_out()), (0, left_out))
+            return load.most()
+
+    tries = iter(range(99))
+    best(lambda: most(next(tries)), lambda count: count <= MOST)
+
+
+def what_is_left_out_is_told_at_the_end(program, folder):
+    """Where the program ends right behind a burst, how many lines were left out is told before it has ended."""
+    with Tracing(program, folder, limits="first_wait = 60000\n") as tracing:
+        tracing.name(f"client {HERE}\n".encode(), "level=info event=trace count=1")
+        load = Load(tracing)
+        load.run(0.5)
+        tracing.stage.ends()
+        hope("logged and left out", load.count() + sum(load.left_out()), LINES * load.sent)
+
+
+def at_its_own_level_no_line_is_left_out(program, folder):
+    """Where the log has the level `trace`, each line is there, also beyond 200 a second, and none is told as left out."""
+    with Tracing(program, folder, level="trace", limits="first_wait = 60000\n") as tracing:
+        tracing.name(f"client {HERE}\n".encode(), "level=info event=trace count=1")
+        load = Load(tracing)
+        for _ in range(15):
+            load.run(0.02)
+            time.sleep(0.05)
+        need(is_so(lambda: load.count() == LINES * load.sent), "lines", load.count(), "of", LINES * load.sent)
+        need(load.sent > MOST // LINES * 4, "too few were sent:", load.sent)
+        tracing.stage.ends()
+        hope("left out", load.left_out(), [])
+
+
 TESTS = [a_session_is_traced, a_user_is_traced_and_not_named, a_client_is_traced, what_is_not_answered_is_traced,
          each_line_of_the_file_has_its_number, the_longest_lines_are_whole, the_longest_file_is_read, what_is_removed_is_traced_no_more,
-         faults_are_told_once, at_trace_each_line_is_logged_once, it_begins_within_a_second, without_a_name_nothing_is_looked_at]
+         faults_are_told_once, at_trace_each_line_is_logged_once, it_begins_within_a_second, without_a_name_nothing_is_looked_at, at_most_200_lines_a_second,
+         what_is_left_out_is_told_at_the_end, at_its_own_level_no_line_is_left_out]
 
 
 if __name__ == "__main__":

@@ -3,8 +3,8 @@
  *
  * Makes files slow for the program that it is loaded into (LD_PRELOAD), as a busy disk or a server that is away would: each
  * write to standard error takes SLOW_LOG milliseconds. Of a file whose path begins with SLOW_PATH each opening takes SLOW_OPEN
- * milliseconds, and each write SLOW_WRITE, if SLOW_WHILE is not set or the file that it names exists. And each datagram to the UDP port
- * SLOW_PORT is sent SLOW_SEND milliseconds late.
+ * milliseconds, each write SLOW_WRITE, and each sync SLOW_SYNC, if SLOW_WHILE is not set or the file that it names exists. And each
+ * datagram to the UDP port SLOW_PORT is sent SLOW_SEND milliseconds late.
  */
 #define _GNU_SOURCE
 #include <arpa/inet.h>
@@ -88,4 +88,22 @@ ssize_t sendto(int socket, const void *octets, size_t size, int flags, const str
         pause_for(number_in("SLOW_SEND"));
     }
     return next(socket, octets, size, flags, to, length);
+}
+
+int fdatasync(int file)
+{
+    int (*next)(int) = dlsym(RTLD_NEXT, "fdatasync");
+    if (is_slow_file(file)) {
+        pause_for(number_in("SLOW_SYNC"));
+    }
+    return next(file);
+}
+
+int fsync(int file)
+{
+    int (*next)(int) = dlsym(RTLD_NEXT, "fsync");
+    if (is_slow_file(file)) {
+        pause_for(number_in("SLOW_SYNC"));
+    }
+    return next(file);
 }

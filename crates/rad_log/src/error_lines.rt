@@ -52,9 +52,22 @@ impl ErrorLines {
         is_started
     }
 
-    /// Makes the thread write what is left, and waits for it at most until `longest` after `start`.
+    /// Makes the thread write what is left, and waits for it at most until `longest` after `start`; or, if lines waited for
+    /// room, until ten seconds after the first did, if that is later.
     pub fn end<R: Clock + Wait>(&self, rt: &R, start: Option<Instant>, longest: Duration) {
         self.queue.end(rt, start, longest);
+    }
+}
+
+/// A log that may have no room for a line, and for which a thread may wait that has nothing else to do.
+pub trait WaitForRoom {
+    /// Waits until there is room for a line, at most until five seconds after the first call.
+    fn wait_for_room<R: Clock + Wait>(&self, rt: &R);
+}
+
+impl WaitForRoom for Logged<(), ErrorLines> {
+    fn wait_for_room<R: Clock + Wait>(&self, rt: &R) {
+        self.sink().queue.wait_for_room(rt);
     }
 }
 

@@ -22,7 +22,7 @@ mod telling;
 mod told_stream;
 mod writer_state;
 
-pub use error_lines::{ErrorLines, open_each_level, open_log};
+pub use error_lines::{ErrorLines, WaitForRoom, open_each_level, open_log};
 pub use escaped::Escaped;
 pub use line_buffer::LineBuffer;
 pub use locking::lock_soon;

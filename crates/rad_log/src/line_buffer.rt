@@ -81,7 +81,7 @@ impl LineBuffer {
     }
 
     /// Returns whether `count` octets fit after the lines and no line was dropped.
-    fn has_room(&self, count: usize) -> bool
+    pub(crate) fn has_room(&self, count: usize) -> bool
         ensures { IsTrue result ↔ ((self.now.dropped ≡ 0) × (length self.now.text.items + count ≤ self.now.size)) }
     {
         self.dropped == 0 && self.text.len() <= self.size && count <= self.size - self.text.len()

@@ -8,7 +8,8 @@ use std::alloc::{AllocError, Global};
 use std::fmt::Display;
 use std::mem;
 use std::sync::atomic::{AtomicU64, Ordering};
-use std::sync::{Mutex, Wait};
+use std::sync::{Mutex, OnceLock, Wait};
+use std::thread;
 use std::time::{Clock, Duration, Instant};
 
 /// The most octets of lines that may wait.
@@ -16,6 +17,18 @@ const ROOM: usize = 65_536;
 
 /// The most octets of a line, with its line end.
 const LONGEST: usize = 4096;
+
+/// How many octets are to be free where a line waited for room. Others may log meanwhile.
+const ENOUGH: usize = 4 * LONGEST;
+
+/// How many milliseconds pass between two looks whether there is room.
+const LOOK: u64 = 1;
+
+/// For how many milliseconds from the first on lines wait for room.
+const PATIENCE: u64 = 5000;
+
+/// For how many milliseconds from then on the end waits for the thread that writes the lines.
+const LAST: u64 = 10_000;
 
 /// Lines that wait, in the order in which they came. Until there is a thread that writes them, the thread that logs a
 /// line also writes it.
@@ -27,6 +40,8 @@ pub struct LineQueue {
     outlet: Mutex<Outlet>,
     /// The state of the thread that writes the lines, once there is one.
     state: WriterState,
+    /// When a line waited for room first.
+    waited: OnceLock<Instant>,
 }
 
 /// What writes to standard error, and the lines for it. The thread that writes holds its lock.
@@ -55,6 +70,7 @@ impl LineQueue {
             missed: AtomicU64::new(0),
             outlet: Mutex::new(outlet),
             state: WriterState::new(),
+            waited: OnceLock::new(),
         })
     }
 
@@ -123,11 +139,59 @@ impl LineQueue {
         writer.write(batch, is_patient);
     }
 
+    /// Waits until there is room for a line, if there is a thread that writes the lines: at most until five seconds after the
+    /// first call. If the clock can't be read, it does not wait.
+    pub fn wait_for_room<R: Clock + Wait>(&self, rt: &R) {
+        if !self.state.is_started() {
+            return;
+        }
+        let since = self.waited_since(rt);
+        for _ in rt.forever() {
+            if self.has_room() || is_over(rt, since) {
+                return;
+            }
+            thread::sleep(rt, Duration::from_millis(LOOK));
+        }
+    }
+
+    /// Returns when a line waited for room first: now, if none did before.
+    fn waited_since<R: Clock>(&self, rt: &R) -> Option<Instant> {
+        if self.waited.get().is_none()
+            && let Ok(now) = Instant::now(rt)
+        {
+            let _ = self.waited.try_set(now);
+        }
+        self.waited.get().copied()
+    }
+
+    /// Returns whether there is room for a line, and for some of others.
+    fn has_room(&self) -> bool {
+        match lock_soon(&self.room) {
+            Some(room) => room.has_room(ENOUGH),
+            None => false,
+        }
+    }
+
     /// Makes the thread, if there is one, write what waits and end, and waits for it at most until `longest` after
-    /// `start`.
+    /// `start`. If lines waited for room, it waits until ten seconds after the first did, if that is later.
     pub fn end<R: Clock + Wait>(&self, rt: &R, start: Option<Instant>, longest: Duration) {
         self.state.end();
         self.state.wait(rt, start, longest);
+        if let Some(since) = self.waited.get() {
+            self.state
+                .wait(rt, Some(*since), Duration::from_millis(LAST));
+        }
+    }
+}
+
+/// Returns whether lines wait no more for room, the first of which waited from this moment on.
+fn is_over<R: Clock>(rt: &R, since: Option<Instant>) -> bool {
+    match since {
+        Some(since) => match since.elapsed(rt) {
+            Ok(passed) => passed >= Duration::from_millis(PATIENCE),
+            Err(_) => true,
+        },
+        None => true,
     }
 }
 

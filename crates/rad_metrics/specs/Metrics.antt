@@ -152,6 +152,10 @@ ledger_family ledger.Lost = counter (codes "ledger_lost_total") (codes "Entries 
 ledger_family ledger.Age = gauge (codes "ledger_oldest_waiting_seconds") (codes "The age of the oldest entry that waits.")
 ledger_family ledger.Unsynced = gauge (codes "ledger_unsynced_seconds") (codes "The age of the oldest part of the ledger that is not synced.")
 
+-- The entries of each client that were dropped.
+abbrev pub ledger_client_family : Described
+ledger_client_family = counter (codes "client_ledger_dropped_total") (codes "Entries of the client that are missing from the ledger because too many waited.")
+
 abbrev pub ledger_value : LedgerMetric → LedgerReading → Value
 ledger_value ledger.Written reading = Count reading.written
 ledger_value ledger.Waiting reading = Count reading.waiting

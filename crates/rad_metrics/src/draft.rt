@@ -71,7 +71,7 @@ impl Draft {
         &mut self,
         config: &Config,
         numbers: &Numbers<'_, R>,
-        ledger: Option<LedgerReading>,
+        ledger: Option<LedgerReading<'_>>,
     ) -> io::Result<()> {
         self.text.clear();
         let known = Known {

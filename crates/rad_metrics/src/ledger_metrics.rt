@@ -3,17 +3,18 @@
 ghost use Rattle.std.specs.Prelude.{◌≡◌, OnOk};
 ghost use Rattle.std.specs.Io.KnownBytes.{Appends};
 ghost use Rattle.rad_metrics.specs.Families.{described_by};
-ghost use Rattle.rad_metrics.specs.Metrics.{ledger_family, ledger_value, ledger_metric_text, ledger_text};
+ghost use Rattle.rad_metrics.specs.Metrics.{ledger_client_family, ledger_family, ledger_value, ledger_metric_text, ledger_text};
 
 use crate::family::{Family, Kind, families};
 use crate::sample::{Labels, Sample};
 use crate::value::Value;
 use std::fmt;
 use std::io::{self, Write};
+use std::sync::atomic::AtomicU64;
 
 /// What is known of a ledger at one moment.
 #[derive(Clone, Copy)]
-pub struct LedgerReading {
+pub struct LedgerReading<'a> {
     /// How many entries were written.
     pub written: u64,
     /// How many entries wait to be written.
@@ -26,6 +27,8 @@ pub struct LedgerReading {
     pub age: u64,
     /// How many milliseconds ago the oldest octet was written that is not synced.
     pub unsynced: u64,
+    /// How many entries of each client were dropped, in the order of the configuration.
+    pub client_dropped: &'a [AtomicU64],
 }
 
 /// A metric of the ledger.
@@ -43,11 +46,11 @@ pub enum LedgerMetric {
 
 /// The lines of a metric of the ledger, with what is known of it.
 #[derive(Clone, Copy)]
-struct MetricLines(LedgerMetric, LedgerReading);
+struct MetricLines<'a>(LedgerMetric, LedgerReading<'a>);
 
 /// The lines of all metrics of the ledger, if there is one.
 #[derive(Clone, Copy)]
-struct LedgerMetrics(Option<LedgerReading>);
+struct LedgerMetrics<'a>(Option<LedgerReading<'a>>);
 
 impl LedgerMetric {
     /// Returns the name, the kind and the help text of the family, which precede its sample.
@@ -66,7 +69,7 @@ impl LedgerMetric {
     }
 
     /// Returns the value of the metric.
-    pub fn value(self, reading: &LedgerReading) -> Value
+    pub fn value(self, reading: &LedgerReading<'_>) -> Value
         ensures { result ≡ ledger_value self reading.now }
     {
         match self {
@@ -80,6 +83,18 @@ impl LedgerMetric {
     }
 }
 
+/// Returns the name, the kind and the help text of the metric of each client's entries that were dropped, which precede its
+/// samples.
+pub fn ledger_client_family() -> Family
+    ensures { described_by result ≡ ledger_client_family }
+{
+    Family {
+        name: "client_ledger_dropped_total",
+        kind: Kind::Counter,
+        help: "Entries of the client that are missing from the ledger because too many waited.",
+    }
+}
+
 /// Writes the metrics of the ledger, if there is one.
 ///
 /// # Errors
@@ -87,7 +102,7 @@ impl LedgerMetric {
 /// The writer's own error.
 pub(crate) fn write_ledger<W: Write>(
     writer: &mut W,
-    reading: Option<LedgerReading>,
+    reading: Option<LedgerReading<'_>>,
 ) -> io::Result<()>
     ensures { OnOk result (Appends (W.contents writer.old) (W.contents writer.new) (ledger_text reading)) }
 {
@@ -95,7 +110,7 @@ pub(crate) fn write_ledger<W: Write>(
     write!(writer, "{metrics}")
 }
 
-impl fmt::Display for MetricLines {
+impl fmt::Display for MetricLines<'_> {
     ghost use Rattle.std.specs.Prelude.{Some};
 
     ghost output = { λ lines. Some (ledger_metric_text lines.0 lines.1) };
@@ -114,7 +129,7 @@ impl fmt::Display for MetricLines {
     }
 }
 
-impl fmt::Display for LedgerMetrics {
+impl fmt::Display for LedgerMetrics<'_> {
     ghost use Rattle.std.specs.Prelude.{Some};
 
     ghost output = { λ metrics. Some (ledger_text metrics.0) };

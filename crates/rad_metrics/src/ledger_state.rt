@@ -1,5 +1,6 @@
 //! What the thread that writes the ledger shares with the front and with the reporter, and the log lines of the ledger.
 
+use crate::counts::atomics;
 use crate::file_sums::{FileSum, FileSums};
 use crate::lane_serials::{LaneSerials, LostSerials};
 use crate::ledger_fault::LedgerFault;
@@ -23,8 +24,9 @@ pub struct LedgerState {
     written: AtomicU64,
     /// How many entries found no room in the buffer.
     dropped: AtomicU64,
-    /// When the oldest entry was handed over that the thread took and did not write yet, in milliseconds since 1970; 0
-    /// if there is none.
+    /// How many of them were of each client, in the order of the configuration.
+    client_dropped: Vec<AtomicU64>,
+    /// When the oldest entry was handed over that is not written, in milliseconds since 1970; 0 if there is none.
     oldest: AtomicU64,
     /// When the oldest octet was written that is not synced, in milliseconds since 1970; 0 if all are.
     unsynced: AtomicU64,
@@ -52,12 +54,13 @@ pub struct LedgerState {
 }
 
 impl LedgerState {
-    /// Makes a state of so many lanes without a thread and without entries.
+    /// Makes a state of so many lanes and clients without a thread and without entries.
     ///
     /// # Errors
     ///
     /// `AllocError` if memory is refused.
-    pub fn new(alloc: Global, lanes: usize) -> Result<LedgerState, AllocError> {
+    pub fn new(alloc: Global, lanes: usize, clients: usize) -> Result<LedgerState, AllocError> {
+        let client_dropped = atomics(alloc, clients, 0)?;
         let lanes = LaneSerials::of_lanes(alloc, lanes)?;
         let sums = FileSums::new(alloc)?;
         Ok(LedgerState {
@@ -65,6 +68,7 @@ impl LedgerState {
             put: AtomicU64::new(0),
             written: AtomicU64::new(0),
             dropped: AtomicU64::new(0),
+            client_dropped,
             oldest: AtomicU64::new(0),
             unsynced: AtomicU64::new(0),
             lost: AtomicU64::new(0),
@@ -106,14 +110,21 @@ impl LedgerState {
         }
     }
 
-    /// Counts an entry that was put into the buffer.
-    pub fn count_put(&self) {
+    /// Counts an entry that was put into the buffer at this time, in milliseconds since 1970. It is the oldest if no other one
+    /// is known to wait.
+    pub fn count_put(&self, milliseconds: u64) {
         self.put.fetch_add(1, Ordering::SeqCst);
+        if self.oldest.load(Ordering::SeqCst) == 0 {
+            self.oldest.store(milliseconds, Ordering::SeqCst);
+        }
     }
 
-    /// Counts an entry that found no room in the buffer.
-    pub fn count_dropped(&self) {
+    /// Counts an entry that found no room in the buffer, of the client in a row, if it has one.
+    pub fn count_dropped(&self, client: Option<usize>) {
         self.dropped.fetch_add(1, Ordering::SeqCst);
+        if let Some(dropped) = client.and_then(|row| self.client_dropped.get(row)) {
+            dropped.fetch_add(1, Ordering::SeqCst);
+        }
     }
 
     /// Counts entries that were written.
@@ -213,7 +224,7 @@ impl LedgerState {
     }
 
     /// Returns the counts, at this moment in milliseconds since 1970.
-    pub fn reading(&self, now: u64) -> LedgerReading {
+    pub fn reading(&self, now: u64) -> LedgerReading<'_> {
         let written = self.written.load(Ordering::SeqCst);
         LedgerReading {
             written,
@@ -222,6 +233,7 @@ impl LedgerState {
             lost: self.lost.load(Ordering::SeqCst),
             age: age_of(&self.oldest, now),
             unsynced: age_of(&self.unsynced, now),
+            client_dropped: self.client_dropped.as_slice(),
         }
     }
 

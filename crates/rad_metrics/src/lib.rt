@@ -51,7 +51,7 @@ pub use family::{Family, Kind};
 pub use file_sums::FileSum;
 pub use home_metric::{HomeMetric, Reading};
 pub use ledger_fault::{LedgerFault, system_number};
-pub use ledger_metrics::{LedgerMetric, LedgerReading};
+pub use ledger_metrics::{LedgerMetric, LedgerReading, ledger_client_family};
 pub use ledger_state::{LedgerState, log_ledger_fault};
 pub use numbers::{Numbers, time_since_1970};
 pub use own_process::ProcessReading;

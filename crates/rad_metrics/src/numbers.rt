@@ -4,7 +4,7 @@ ghost use Rattle.rad_metrics.specs.Times.{IsStartBy};
 
 use crate::counted::Counted;
 use crate::counts::{APART, Counts, atomics, word_or_0};
-use crate::event::{Event, report_peer, report_row};
+use crate::event::{Event, report_peer, report_row, worker_row};
 use crate::home_cells::{HomeCell, home_cells, is_of_home};
 use crate::own_process::ProcessReading;
 use crate::program_metrics::ProgramReading;
@@ -155,6 +155,11 @@ impl<R: Wait> Numbers<'_, R> {
 impl<R> Numbers<'_, R> {
     fn turn_word(&self, row: usize) -> Option<&AtomicU64> {
         self.turns.get(row.checked_mul(APART)?)
+    }
+
+    /// Returns when the turn of a worker began, in microseconds since the program started; 0 before its first one.
+    pub fn turn_of(&self, worker: Worker) -> u64 {
+        self.turn(worker_row(worker))
     }
 
     /// Returns when the turn of the worker in a row began.

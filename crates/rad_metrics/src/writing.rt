@@ -1,14 +1,14 @@
 //! The text of all metrics, one family after the other.
 
 use crate::counted::Counted;
-use crate::counts::Counts;
+use crate::counts::{Counts, word_or_0};
 use crate::event::Event;
 use crate::family::Family;
 use crate::histogram::{BUCKETS, Histogram};
 use crate::home_cells::HomeCell;
 use crate::home_metric::{HomeMetric, Reading};
 use crate::home_times::Timed;
-use crate::ledger_metrics::{LedgerReading, write_ledger};
+use crate::ledger_metrics::{LedgerReading, ledger_client_family, write_ledger};
 use crate::metric::{METRICS, Metric};
 use crate::program_metrics::{ProgramMetric, ProgramReading, VERSION};
 use crate::realm_numbers::{RealmNumbers, realm_family, realms_of};
@@ -31,7 +31,7 @@ pub(crate) struct Known<'a> {
     pub(crate) program: ProgramReading,
     pub(crate) readings: &'a [Reading],
     pub(crate) sockets: &'a [SocketReading],
-    pub(crate) ledger: Option<LedgerReading>,
+    pub(crate) ledger: Option<LedgerReading<'a>>,
 }
 
 /// Writes all metrics.
@@ -49,7 +49,7 @@ pub(crate) fn write_metrics(text: &mut Vec<u8>, known: &Known<'_>) -> io::Result
 fn write_metric(text: &mut Vec<u8>, metric: Metric, known: &Known<'_>) -> io::Result<()> {
     match metric {
         Metric::Program(metric) => write_program(text, metric, &known.program),
-        Metric::Ledger => write_ledger(text, known.ledger),
+        Metric::Ledger => write_all_of_ledger(text, known),
         Metric::Counted(metric) if metric.is_of_clients() => write_clients(text, metric, known),
         Metric::Counted(metric) => write_workers(text, metric, known),
         Metric::Realms => write_realms(text, known),
@@ -221,4 +221,21 @@ fn socket_labels<'a>(homes: &'a [Home], socket: &SocketReading) -> Labels<'a> {
         }
     };
     Labels(Some(owner), Some(label))
+}
+
+/// Writes the metrics of the ledger, if there is one, and how many entries of each client were dropped, in the order of the
+/// configuration.
+fn write_all_of_ledger(text: &mut Vec<u8>, known: &Known<'_>) -> io::Result<()> {
+    write_ledger(text, known.ledger)?;
+    let Some(reading) = known.ledger else {
+        return Ok(());
+    };
+    let family = ledger_client_family();
+    write!(text, "{family}")?;
+    for (row, client) in known.clients.iter().enumerate() {
+        let labels = Labels(Some(Label::Client(client.address())), None);
+        let count = word_or_0(reading.client_dropped.get(row));
+        write_sample(text, family, "", labels, Value::Count(count))?;
+    }
+    Ok(())
 }

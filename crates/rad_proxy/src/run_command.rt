@@ -213,7 +213,7 @@ impl<'a, H: Host + Net, M: Machine> Service<'a, H, M> {
                     alloc,
                     config,
                     telemetry,
-                    telemetry.left_log(inlet),
+                    telemetry.left_log(rt, inlet),
                     Streams {
                         reader: ToldStream::new(rt.reader(), "input-fault", log),
                         writer: ToldStream::new(io::writer(rt), "output-fault", log),

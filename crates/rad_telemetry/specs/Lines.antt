@@ -83,6 +83,10 @@ up_line line = codes "event=up home=" ++ line.home.now ++ codes " reason=\"" ++ 
 abbrev pub others_line : List ℕ → ℕ → List ℕ
 others_line home count = codes "event=left home=" ++ home ++ codes " count=" ++ decimal count
 
+-- How many lines about what is traced were left out.
+abbrev pub left_out_line : ℕ → List ℕ
+left_out_line count = codes "event=trace-left-out count=" ++ decimal count
+
 -- The state in which a request is left.
 abbrev pub state_text : LeftState → List ℕ
 state_text Queued = codes "queued"

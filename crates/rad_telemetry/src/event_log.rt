@@ -5,26 +5,29 @@ use crate::packet_words::{DatagramWords, KeyWord, WordsOf};
 use crate::tracer::{Tracer, subject_of_packet};
 use crate::workers::worker_name;
 use rad_desk::{Origin, Session, Spent, Worker, WorkerReport};
-use rad_log::{Level, Log, tell};
-use rad_metrics::{Reason, report_row};
+use rad_log::{Level, Log, logs_at, tell};
+use rad_metrics::{Numbers, Reason, report_row};
 use rad_realms::{Config, Endpoint};
 use std::fmt::{self, Display};
 
 /// Logs at once what the workers of a configuration report: rare events at `error`, `warn` or `info`; each drop, refusal,
 /// fault and cut at `debug`; each datagram, accepted or repeated request, answer and returned response at `trace`. What is
-/// about something that is traced is logged whatever the level.
+/// about something that is traced is logged whatever the level: at most 200 lines a second, besides those of the log's level.
 #[derive(Drop)]
 pub struct EventLog<'a, L> {
     pub(crate) log: &'a L,
     pub(crate) config: &'a Config,
     pub(crate) tracer: &'a Tracer<L>,
-    /// The number of what is traced that the lines are about.
-    trace: Option<usize>,
+    /// What is traced that the lines are about, if anything.
+    trace: Option<TracedNow>,
 }
 
-/// The last word of a line about something that is traced: its number.
+/// The number of something that is traced, and the moment, in microseconds since the program started.
 #[derive(Clone, Copy)]
-struct TraceWord(Option<usize>);
+struct TracedNow {
+    place: usize,
+    now: u64,
+}
 
 /// The number and the session of a request, each with a space before it, as far as they are known.
 #[derive(Clone, Copy)]
@@ -51,27 +54,44 @@ impl<'a, L> EventLog<'a, L> {
         }
     }
 
-    /// Returns the log of lines about what is traced under a number.
-    fn traced(&self, place: usize) -> EventLog<'a, L> {
+    /// Returns the log of lines about what is traced under a number, at this moment in microseconds since the program started.
+    fn traced(&self, place: usize, now: u64) -> EventLog<'a, L> {
         EventLog {
-            log: &self.tracer.log,
+            log: self.log,
             config: self.config,
             tracer: self.tracer,
-            trace: Some(place),
+            trace: Some(TracedNow { place, now }),
         }
     }
 }
 
 impl<L: Log> EventLog<'_, L> {
+    /// Logs a line. One about something that is traced ends with its number, and is logged whatever the level, unless too many
+    /// such lines were.
     fn tell<D: Display>(&self, level: Level, line: &D) {
-        let trace = TraceWord(self.trace);
-        tell(self.log, level, &format_args!("{line}{trace}"));
+        match self.trace {
+            None => tell(self.log, level, line),
+            Some(TracedNow { place, now }) => {
+                if logs_at(self.log, level) || self.tracer.takes_line(now) {
+                    let line = format_args!("{line} trace={place}");
+                    tell(&self.tracer.log, level, &line);
+                }
+            }
+        }
     }
 
     /// Logs what a worker reports, if it is logged at once.
-    pub(crate) fn report(&self, worker: Worker, report: &WorkerReport<'_>) {
+    pub(crate) fn report<R>(
+        &self,
+        worker: Worker,
+        report: &WorkerReport<'_>,
+        numbers: &Numbers<'_, R>,
+    ) {
         match self.tracer.find(worker, report) {
-            Some(place) => self.traced(place).report_at_once(worker, report),
+            Some(place) => {
+                let now = numbers.turn_of(worker);
+                self.traced(place, now).report_at_once(worker, report);
+            }
             None => self.report_at_once(worker, report),
         }
     }
@@ -209,15 +229,6 @@ fn words_of_origin(origin: Option<&Origin>) -> RequestWords<'_> {
             origin.session.as_ref().map(Session::octets),
         ),
         None => RequestWords(None, None),
-    }
-}
-
-impl Display for TraceWord {
-    fn fmt<W: fmt::Write>(&self, f: &mut fmt::Formatter<W>) -> fmt::Result {
-        match self.0 {
-            Some(place) => write!(f, " trace={place}"),
-            None => Ok(()),
-        }
     }
 }
 

@@ -8,11 +8,13 @@ use crate::packet_words::KeyWord;
 use crate::workers::worker_name;
 use rad_desk::{Ledger, LeftRecord, Wire, Worker, status_of};
 use rad_lane::{Counts, Outgoing, session_of};
-use rad_log::{Level, Log, tell, tell_reason};
+use rad_log::{Level, Log, WaitForRoom, logs_at, tell, tell_reason};
 use rad_metrics::worker_row;
 use rad_packet::read;
 use rad_realms::Endpoint;
 use std::fmt;
+use std::sync::Wait;
+use std::time::Clock;
 
 /// How many requests of a home server are logged. Of the others the number is.
 const MOST_LOGGED: u64 = 20;
@@ -21,16 +23,17 @@ const MOST_LOGGED: u64 = 20;
 const NO_MEMORY: &str = "memory was refused";
 
 /// A ledger that hands everything on to another one, and logs the requests that are left: at most 20 of each home server,
-/// and then the number of the others.
+/// and then the number of the others. These lines wait for room in the log.
 #[derive(Drop)]
-pub struct LeftLog<'a, L, K: Drop> {
+pub struct LeftLog<'a, L, R, K: Drop> {
+    pub(crate) rt: &'a R,
     pub(crate) events: EventLog<'a, L>,
     pub(crate) ledger: K,
     /// How many requests of the lane that is told were left so far.
     pub(crate) count: u64,
 }
 
-impl<L: Log, K: Ledger + Drop> Ledger for LeftLog<'_, L, K> {
+impl<L: Log + WaitForRoom, R: Clock + Wait, K: Ledger + Drop> Ledger for LeftLog<'_, L, R, K> {
     ghost kept = { λ log. K.kept log.ledger };
 
     ghost left = { λ log. K.left log.ledger };
@@ -45,6 +48,7 @@ impl<L: Log, K: Ledger + Drop> Ledger for LeftLog<'_, L, K> {
 
     fn leave(&mut self, told: &LeftRecord<'_>) {
         if self.count < MOST_LOGGED {
+            self.events.wait_for_room(self.rt);
             self.events.left(told);
         }
         self.count = self.count.saturating_add(1);
@@ -53,6 +57,7 @@ impl<L: Log, K: Ledger + Drop> Ledger for LeftLog<'_, L, K> {
 
     fn end_lane(&mut self, lane: u16, counts: &Counts) {
         if self.count > MOST_LOGGED {
+            self.events.wait_for_room(self.rt);
             self.events.others_left(lane, self.count - MOST_LOGGED);
         }
         self.count = 0;
@@ -60,8 +65,18 @@ impl<L: Log, K: Ledger + Drop> Ledger for LeftLog<'_, L, K> {
     }
 
     fn leave_untold(&mut self) {
+        self.events.wait_for_room(self.rt);
         tell_reason(self.events.log, "left-untold", &NO_MEMORY);
         self.ledger.leave_untold();
+    }
+}
+
+impl<L: Log + WaitForRoom> EventLog<'_, L> {
+    /// Waits until there is room for a line of a request that is left, if such lines are logged.
+    fn wait_for_room<R: Clock + Wait>(&self, rt: &R) {
+        if logs_at(self.log, Level::Warn) {
+            self.log.wait_for_room(rt);
+        }
     }
 }
 

@@ -1,5 +1,5 @@
-//! The log lines of sums, which are how many events of a kind happened since the last such line, of a home server that is
-//! marked up, and the other end of a datagram in log lines.
+//! The log lines of sums, which are how many events of a kind happened since the last such line, of lines that were left out,
+//! of a home server that is marked up, and the other end of a datagram in log lines.
 
 ghost use Rattle.std.specs.Prelude.{◌≡◌};
 ghost use Rattle.rad_telemetry.specs.Lines.{event_word, state_text};
@@ -43,6 +43,10 @@ pub struct OthersLine<'a> {
     pub home: &'a str,
     pub count: u64,
 }
+
+/// The log line of lines about what is traced that were left out.
+#[derive(Clone, Copy)]
+pub(crate) struct LeftOutLine(pub(crate) u64);
 
 /// The log line of a home server that is marked up, for this reason.
 #[derive(Clone, Copy)]
@@ -156,6 +160,18 @@ impl fmt::Display for OthersLine<'_> {
     fn fmt<W: fmt::Write>(&self, f: &mut fmt::Formatter<W>) -> fmt::Result {
         let OthersLine { home, count } = *self;
         write!(f, "event=left home={home} count={count}")
+    }
+}
+
+impl fmt::Display for LeftOutLine {
+    ghost use Rattle.std.specs.Prelude.{Some};
+    ghost use Rattle.rad_telemetry.specs.Lines.{left_out_line};
+
+    ghost output = { λ line. Some (left_out_line line.0) };
+
+    fn fmt<W: fmt::Write>(&self, f: &mut fmt::Formatter<W>) -> fmt::Result {
+        let count = self.0;
+        write!(f, "event=trace-left-out count={count}")
     }
 }
 

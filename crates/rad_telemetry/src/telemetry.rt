@@ -61,10 +61,11 @@ impl<'a, L: Log, R: Clock> Telemetry<'a, L, R> {
     }
 
     /// Makes a ledger that logs what is left at the end, and hands everything on to this one.
-    pub fn left_log<K: Ledger + Drop>(&self, ledger: K) -> LeftLog<'a, L, K>
+    pub fn left_log<K: Ledger + Drop>(&self, rt: &'a R, ledger: K) -> LeftLog<'a, L, R, K>
         ensures { (result.ledger ≡ ledger) × (result.count ≡ 0) }
     {
         LeftLog {
+            rt,
             events: self.events.copy(),
             ledger,
             count: 0,
@@ -103,6 +104,6 @@ impl<L: Log, R: Clock> Gate for Telemetry<'_, L, R> {
     fn report(&self, worker: Worker, report: &WorkerReport<'_>) {
         self.sums.keep(worker, report);
         self.numbers.report(worker, report);
-        self.events.report(worker, report);
+        self.events.report(worker, report, &self.numbers);
     }
 }

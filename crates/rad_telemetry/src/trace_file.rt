@@ -114,6 +114,8 @@ pub(crate) struct TraceLook {
     fault: Option<TraceFault>,
     read: Vec<u8>,
     wanted: Vec<Wanted>,
+    /// Whether the next look is the first one of a report.
+    is_first: bool,
 }
 
 impl TraceLook {
@@ -124,11 +126,12 @@ impl TraceLook {
             fault: None,
             read: Vec::new(alloc),
             wanted: Vec::new(alloc),
+            is_first: true,
         }
     }
 
-    /// Looks at the file. If it is another one than before, what it names is traced from now on, and that is logged; so is
-    /// why nothing is.
+    /// Looks at the file, as each report does twice, but for the last one. If it is another one than before, what it names is
+    /// traced from now on, and that is logged; so is why nothing is. The first look of a report logs how many lines were left out.
     pub(crate) fn look<R: Wait, S: TraceText, L: Log>(
         &mut self,
         rt: &R,
@@ -137,6 +140,10 @@ impl TraceLook {
         tracer: &Tracer<L>,
         log: &L,
     ) {
+        if self.is_first {
+            tracer.tell_left_out();
+        }
+        self.is_first = !self.is_first;
         let fault = source.read_trace(path, &mut self.read).err();
         if fault == self.fault && self.read.as_slice() == self.text.as_slice() {
             return;

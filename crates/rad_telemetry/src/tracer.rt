@@ -1,17 +1,24 @@
 //! What is traced: a user, a session or a client, of whose requests each line is logged, whatever the level of the log.
 
 ghost use Rattle.std.specs.Prelude.{◌≡◌, option_copied};
-ghost use Rattle.rad_telemetry.specs.Traced.{fits, is_one as the_one};
+ghost use Rattle.rad_telemetry.specs.Traced.{TakesLine, fits, is_one as the_one};
 
+use crate::lines::LeftOutLine;
 use rad_desk::{Origin, Session, Worker, WorkerReport, user_of};
 use rad_lane::session_of;
-use rad_log::lock_soon;
+use rad_log::{Level, Log, lock_soon, tell};
 use rad_packet::read;
 use rad_realms::Endpoint;
 use std::alloc::Global;
 use std::mem;
-use std::sync::atomic::{AtomicBool, Ordering};
+use std::sync::atomic::{AtomicBool, AtomicU64, Ordering};
 use std::sync::{Mutex, Wait};
+
+/// The most lines about what is traced that are logged in a second.
+const MOST_LINES: u64 = 200;
+
+/// How many microseconds a second has.
+const SECOND: u64 = 1_000_000;
 
 /// Something that is traced.
 #[derive(Drop)]
@@ -57,6 +64,34 @@ fn is_one(found: Option<&[u8]>, text: &[u8]) -> bool
     }
 }
 
+/// A second, and how many lines about what is traced were logged in it.
+#[derive(Clone, Copy)]
+pub struct LineSecond {
+    /// When it began, in microseconds since the program started.
+    pub since: u64,
+    pub count: u64,
+}
+
+impl LineSecond {
+    /// Returns whether one more line is logged at this moment, in microseconds since the program started, and counts it if so.
+    /// The first line behind a second begins the next one.
+    pub fn takes(&mut self, now: u64) -> bool
+        ensures { TakesLine self.old now result self.new }
+    {
+        if now.saturating_sub(self.since) >= SECOND {
+            *self = LineSecond {
+                since: now,
+                count: 0,
+            };
+        }
+        if self.count >= MOST_LINES {
+            return false;
+        }
+        self.count += 1;
+        true
+    }
+}
+
 /// What is traced, and the log of its lines. As long as nothing is, a worker reads a flag for each of its reports.
 #[derive(Drop)]
 pub struct Tracer<L> {
@@ -64,6 +99,9 @@ pub struct Tracer<L> {
     pub(crate) log: L,
     is_on: AtomicBool,
     wanted: Mutex<Vec<Wanted>>,
+    second: Mutex<LineSecond>,
+    /// How many lines were left out, and not told yet.
+    left_out: AtomicU64,
 }
 
 impl<L> Tracer<L> {
@@ -73,6 +111,8 @@ impl<L> Tracer<L> {
             log,
             is_on: AtomicBool::new(false),
             wanted: Mutex::new(Vec::new(alloc)),
+            second: Mutex::new(LineSecond { since: 0, count: 0 }),
+            left_out: AtomicU64::new(0),
         }
     }
 
@@ -96,6 +136,30 @@ impl<L> Tracer<L> {
         }
         let subject = subject_of(worker, report)?;
         place_of(lock_soon(&self.wanted)?.as_slice(), &subject)
+    }
+}
+
+impl<L> Tracer<L> {
+    /// Returns whether a line about what is traced is logged at this moment, in microseconds since the program started. If not,
+    /// as while others hold the lock for too long, it is counted as left out.
+    pub(crate) fn takes_line(&self, now: u64) -> bool {
+        if let Some(mut second) = lock_soon(&self.second)
+            && second.takes(now)
+        {
+            return true;
+        }
+        self.left_out.fetch_add(1, Ordering::SeqCst);
+        false
+    }
+}
+
+impl<L: Log> Tracer<L> {
+    /// Logs how many lines were left out since the last call, if any were.
+    pub(crate) fn tell_left_out(&self) {
+        let count = self.left_out.swap(0, Ordering::SeqCst);
+        if count != 0 {
+            tell(&self.log, Level::Info, &LeftOutLine(count));
+        }
     }
 }
 

@@ -4,3 +4,4 @@ pub mod Fills
 pub mod Parcels
 pub mod RunNames
 pub mod RunLines
+pub mod Shares

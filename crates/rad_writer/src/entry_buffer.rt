@@ -5,8 +5,10 @@ ghost use Rattle.rtrb.specs.Ring.{known_items, received};
 ghost use Rattle.rad_writer.specs.Parcels.{HasPackets, all_octets, octets_held, octets_of};
 
 use crate::parcel::{MOST, Origin, Parcel, ParcelHead};
+use crate::shares::ClientShares;
 use rtrb::Consumer;
 use std::alloc::{AllocError, Global};
+use std::sync::Arc;
 
 /// The writer's end of the buffer, and the parcel that was taken last.
 #[derive(Drop)]
@@ -19,13 +21,16 @@ pub(crate) struct EntryBuffer {
     held: Option<ParcelHead>,
     /// Whether the next head was found without its packets.
     is_parted: bool,
+    /// What is passed of each client.
+    shares: Arc<ClientShares>,
     ghost whole: { length (received packets) ≡ all_octets (received heads) },
     ghost has_room: { vec_len room ≡ 12288 },
     ghost fits: { octets_held held ≤ 12288 },
 }
 
 impl EntryBuffer {
-    ghost use Rattle.std.specs.Prelude.{[], None, false, MatchOption, IfOk};
+    ghost use Rattle.std.specs.Prelude.{[], ◌∷◌, None, Some, false, MatchOption, IfOk, IfSome};
+    ghost use mathlib.Core.List.{IsPrefix};
     ghost use Rattle.rad_writer.specs.Buffer.{HasNone, HoldsParcel, SameTaken, TakesNothing, TakesParcel};
 
     /// Makes the end, with room for the packets of a parcel.
@@ -37,6 +42,7 @@ impl EntryBuffer {
         alloc: Global,
         packets: Consumer<u8, Global>,
         heads: Consumer<ParcelHead, Global>,
+        shares: Arc<ClientShares>,
     ) -> Result<EntryBuffer, AllocError>
         requires { (received packets ≡ []) × (received heads ≡ []) }
         ensures { IfOk result (λ buffer. (buffer.held ≡ None) × (buffer.is_parted ≡ false) × (received buffer.packets ≡ []) × (received buffer.heads ≡ [])) }
@@ -49,6 +55,7 @@ impl EntryBuffer {
             room,
             held: None,
             is_parted: false,
+            shares,
         })
     }
 
@@ -89,11 +96,30 @@ impl EntryBuffer {
         Some(parcel_of(head, self.room.as_slice()))
     }
 
-    /// Ends the parcel that is held.
+    /// Ends the parcel that is held. What it took of the buffer no longer counts for its client.
     pub(crate) fn pass(&mut self)
         ensures { (self.new.held ≡ None) × (self.new.is_parted ≡ self.old.is_parted) × SameTaken self.old self.new }
     {
+        if let Some(head) = self.held {
+            let octets = if head.fits() { head.octets() } else { 0 };
+            self.shares.pass(&head, octets);
+        }
         self.held = None;
+    }
+
+    /// Returns when the next parcel was put into the buffer, in milliseconds since 1970, if there is one.
+    pub(crate) fn next_time(&mut self) -> Option<u64>
+        ensures same { (self.new.held ≡ self.old.held) × (self.new.is_parted ≡ self.old.is_parted) × SameTaken self.old self.new }
+        ensures held { MatchOption self.old.held (Unit {0}) (λ head. result ≡ Some head.time) }
+        ensures next { MatchOption self.old.held (IfSome result (λ time. (head : ParcelHead) × IsPrefix (head ∷ []) (known_items self.new.heads) × (time ≡ head.time))) (λ _. Unit {0}) }
+    {
+        if let Some(head) = self.held {
+            return Some(head.time);
+        }
+        if self.heads.slots() == 0 {
+            return None;
+        }
+        Some(self.heads.peek_known().time)
     }
 }
 

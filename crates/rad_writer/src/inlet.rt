@@ -1,12 +1,13 @@
 //! What the front hands each response to, and at the end each request that is left.
 
-ghost use Rattle.std.specs.Prelude.{◌≡◌, ◌⊎◌, Some, MatchBool};
+ghost use Rattle.std.specs.Prelude.{◌≡◌, ◌⊎◌, Some, MatchBool, vec_len};
 ghost use Rattle.rad_writer.specs.Buffer.{Gives, GivesNothing, PutsEntry};
 ghost use Rattle.rad_writer.specs.Parcels.{IsCounted};
 
 use crate::counts::RunCounts;
 use crate::giving::ParcelGiver;
-use crate::parcel::Parcel;
+use crate::parcel::{Parcel, ParcelHead};
+use crate::shares::{ClientShares, NOTHING, Taking};
 use rad_desk::{Handed, Ledger, LeftRecord, Wire};
 use rad_lane::{Counts, Outgoing};
 use rad_metrics::{LedgerState, time_since_1970};
@@ -17,8 +18,8 @@ use std::time::{Clock, Duration, Instant};
 /// How many milliseconds pass between two looks whether there is room.
 const LOOK: u64 = 1;
 
-/// What the front puts into the buffer. An entry that finds no room there is dropped and counted. A request that is left
-/// waits for room, as long as there is time.
+/// What the front puts into the buffer. An entry that finds no room there, or is beyond the share of its client, is dropped
+/// and counted. A request that is left waits for room, as long as there is time.
 #[derive(Drop)]
 pub struct LedgerInlet<'a, R> {
     pub(crate) clock: &'a R,
@@ -27,6 +28,9 @@ pub struct LedgerInlet<'a, R> {
     /// The last time that was read, in milliseconds since 1970.
     pub(crate) time: u64,
     pub(crate) giver: ParcelGiver,
+    /// What the entries of each client took of the buffer so far, in the order of the configuration.
+    pub(crate) puts: Vec<Taking>,
+    pub(crate) shares: Arc<ClientShares>,
     pub(crate) counts: Arc<RunCounts>,
     pub(crate) state: Arc<LedgerState>,
     /// What was handed over so far, also what was dropped.
@@ -55,10 +59,11 @@ impl<R: Clock + Wait> Ledger for LedgerInlet<'_, R> {
         let lane = outgoing.reply.mark().lane;
         self.counts.took(lane, outgoing.serial);
         self.state.hand_over(lane, outgoing.serial);
-        if self.put(outgoing) {
-            self.state.count_put();
+        let row = self.shares.row(outgoing.client);
+        if self.put(outgoing, row) {
+            self.state.count_put(self.time);
         } else {
-            self.state.count_dropped();
+            self.state.count_dropped(row);
         }
         self.handed.add(outgoing, wire);
     }
@@ -76,13 +81,51 @@ impl<R: Clock + Wait> Ledger for LedgerInlet<'_, R> {
 }
 
 impl<R: Clock> LedgerInlet<'_, R> {
-    /// Puts the entry of a response into the buffer, whole, and returns whether there was room for it.
-    fn put(&mut self, outgoing: &Outgoing) -> bool
+    /// Puts the entry of a response to the client in a row into the buffer, whole, and returns whether there was room for it
+    /// within the client's share.
+    fn put(&mut self, outgoing: &Outgoing, row: Option<usize>) -> bool
         ensures put { MatchBool result (PutsEntry self.old outgoing.now self.new) (GivesNothing self.old.giver self.new.giver) }
         ensures handed { self.new.handed ≡ self.old.handed }
     {
         let time = self.read_time();
-        self.giver.give(&Parcel::of(time, outgoing))
+        let parcel = Parcel::of(time, outgoing);
+        let held = self.held(&parcel.head, row);
+        let is_put = self.giver.give_share(&parcel, self.puts.len(), held);
+        if is_put {
+            add_put(&mut self.puts, row, &parcel);
+        }
+        is_put
+    }
+
+    /// Returns how much of the buffer the entries of the client in a row take, if this one would leave less than half of it
+    /// free. Before that a client has no share.
+    fn held(&mut self, head: &ParcelHead, row: Option<usize>) -> Taking
+        ensures giver { GivesNothing self.old.giver self.new.giver }
+        ensures same { (self.new.handed ≡ self.old.handed) × (self.new.time ≡ self.old.time) }
+    {
+        let Some(row) = row else {
+            return NOTHING;
+        };
+        if !head.fits() || !self.giver.is_past_half(head) {
+            return NOTHING;
+        }
+        match self.puts.get(row) {
+            Some(put) => self.shares.held(row, *put),
+            None => NOTHING,
+        }
+    }
+}
+
+/// Adds what an entry takes of the buffer to what the client in a row put.
+fn add_put(puts: &mut Vec<Taking>, row: Option<usize>, parcel: &Parcel<'_>)
+    ensures { vec_len puts.new ≡ vec_len puts.old }
+{
+    let octets = parcel.sent.len() as u64;
+    let octets = octets.saturating_add(parcel.reply.len() as u64);
+    let octets = octets.saturating_add(parcel.response.len() as u64);
+    if let Some(put) = row.and_then(|row| puts.get_mut(row)) {
+        put.octets = put.octets.saturating_add(octets);
+        put.places = put.places.saturating_add(1);
     }
 }
 

@@ -7,9 +7,10 @@ ghost use Rattle.rad_writer.specs.RunNames.{AreNamesOf};
 use crate::counts::RunCounts;
 use crate::entry_buffer::EntryBuffer;
 use crate::filling::new_batch;
-use crate::giving::ParcelGiver;
+use crate::giving::{PLACES, ParcelGiver, ROOM};
 use crate::inlet::LedgerInlet;
 use crate::run_names::RunNames;
+use crate::shares::{ClientShares, NOTHING, Taking};
 use crate::writer::{LedgerWriter, LineSource};
 use ledger_files::LedgerDisk;
 use ledger_lines::MOST_LINE_OCTETS;
@@ -28,12 +29,6 @@ use std::time::{Clock, Duration};
 
 /// The environment variable that names the folder of the ledger.
 const LEDGER: &str = "RAD_PROXY_LEDGER";
-
-/// How many octets of packets may wait in the buffer.
-const ROOM: usize = 67_108_864;
-
-/// How many entries may wait in the buffer.
-const PLACES: usize = 180_000;
 
 /// A ledger that is open: the front's end, the writer's end, and what they and the reporter share.
 #[derive(Drop)]
@@ -84,14 +79,18 @@ pub fn open_ledger<'a, R: Clock + RandomSource>(
     ensures folder { IfOk result (λ opened. opened.writer.source.folder ≡ folder) }
     ensures names { IfOk result (λ opened. AreNamesOf config.now.homes opened.writer.source.names.homes.items) }
     ensures lanes { IfOk result (λ opened. vec_len opened.writer.source.next ≡ length config.now.homes) }
+    ensures clients { IfOk result (λ opened. vec_len opened.inlet.puts ≡ length config.now.clients) }
 {
     let lanes = config.homes().len();
+    let clients = config.clients();
     let shared = Shared {
         counts: Arc::new(alloc, RunCounts::new(alloc, lanes)?)?,
-        state: Arc::new(alloc, LedgerState::new(alloc, lanes)?)?,
+        state: Arc::new(alloc, LedgerState::new(alloc, lanes, clients.len())?)?,
+        shares: Arc::new(alloc, ClientShares::new(alloc, clients)?)?,
     };
-    let (giver, entries) = open_buffer(alloc)?;
-    let inlet = open_inlet(rt, giver, &shared, longest)?;
+    let (giver, entries) = open_buffer(alloc, &shared)?;
+    let puts = no_puts(alloc, clients.len())?;
+    let inlet = open_inlet(rt, giver, puts, &shared, longest)?;
     let source = open_source(
         alloc,
         draw_name(rt),
@@ -114,6 +113,7 @@ pub fn open_ledger<'a, R: Clock + RandomSource>(
 struct Shared {
     counts: Arc<RunCounts>,
     state: Arc<LedgerState>,
+    shares: Arc<ClientShares>,
 }
 
 /// Makes the two ends of the buffer: of a ring of packets, and of a ring of their heads.
@@ -121,12 +121,16 @@ struct Shared {
 /// # Errors
 ///
 /// `AllocError` if memory is refused.
-fn open_buffer(alloc: Global) -> Result<(ParcelGiver, EntryBuffer), AllocError>
+fn open_buffer(
+    alloc: Global,
+    shared: &Shared,
+) -> Result<(ParcelGiver, EntryBuffer), AllocError>
     ensures { IfOk result (λ ends. HasRoom 67108864 180000 ends.0) }
 {
     let (packets, taken_packets) = RingBuffer::new(alloc, ROOM)?;
     let (heads, taken_heads) = RingBuffer::new(alloc, PLACES)?;
-    let entries = EntryBuffer::new(alloc, taken_packets, taken_heads)?;
+    let shares = Arc::try_clone(&shared.shares)?;
+    let entries = EntryBuffer::new(alloc, taken_packets, taken_heads, shares)?;
     Ok((ParcelGiver::new(packets, heads), entries))
 }
 
@@ -138,17 +142,21 @@ fn open_buffer(alloc: Global) -> Result<(ParcelGiver, EntryBuffer), AllocError>
 fn open_inlet<'a, R: Clock>(
     rt: &'a R,
     giver: ParcelGiver,
+    puts: Vec<Taking>,
     shared: &Shared,
     longest: Duration,
 ) -> Result<LedgerInlet<'a, R>, AllocError>
     ensures kept { IfOk result (λ inlet. inlet.handed.responses ≡ []) }
     ensures giver { IfOk result (λ inlet. inlet.giver ≡ giver) }
+    ensures puts { IfOk result (λ inlet. inlet.puts ≡ puts) }
 {
     Ok(LedgerInlet {
         clock: rt,
         longest,
         time: 0,
         giver,
+        puts,
+        shares: Arc::try_clone(&shared.shares)?,
         counts: Arc::try_clone(&shared.counts)?,
         state: Arc::try_clone(&shared.state)?,
         handed: Handed::new(),
@@ -197,6 +205,19 @@ fn zeros(alloc: Global, lanes: usize) -> Result<Vec<u64>, AllocError>
     let mut numbers = Vec::with_capacity(alloc, lanes)?;
     numbers.resize(lanes, 0)?;
     Ok(numbers)
+}
+
+/// Makes what each of so many clients put into the buffer: nothing yet.
+///
+/// # Errors
+///
+/// `AllocError` if memory is refused.
+fn no_puts(alloc: Global, clients: usize) -> Result<Vec<Taking>, AllocError>
+    ensures { IfOk result (λ puts. vec_len puts ≡ clients) }
+{
+    let mut puts = Vec::with_capacity(alloc, clients)?;
+    puts.resize(clients, NOTHING)?;
+    Ok(puts)
 }
 
 /// Draws what names a run. If the system gives no random octets, it is the time.

@@ -286,7 +286,7 @@ impl<R: Clock + Threads + Sync, D: LedgerDisk + Drop> Session<'_, R, D> {
             }
             let _ = self.files.digest(self.rt);
         }
-        self.source.state.set_oldest(self.oldest());
+        self.tell_oldest();
         Ok(())
     }
 
@@ -325,7 +325,17 @@ impl<R: Clock + Threads + Sync, D: LedgerDisk + Drop> Session<'_, R, D> {
         }
     }
 
-    /// Returns the number of the day of the first entry that waits, or of now if there is none.
+    /// Tells when the oldest entry was handed over that is not written: the first whose line is not written whole, or else
+    /// the next in the buffer.
+    fn tell_oldest(&mut self) {
+        let oldest = match self.oldest() {
+            Some(oldest) => Some(oldest),
+            None => self.source.entries.next_time(),
+        };
+        self.source.state.set_oldest(oldest);
+    }
+
+    /// Returns the number of the day of the first line that is not written whole, or of now if there is none.
     fn day_now(&self) -> u64 {
         match self.oldest() {
             Some(oldest) => day_of(oldest),
@@ -485,7 +495,7 @@ impl<R: Clock + Threads + Sync, D: LedgerDisk + Drop> Session<'_, R, D> {
     fn write_lines(&mut self) -> Result<(), DiskFault> {
         let outcome = self.files.write();
         self.pass_lines();
-        self.source.state.set_oldest(self.oldest());
+        self.tell_oldest();
         outcome?;
         self.files.write_end()
     }

@@ -3,24 +3,26 @@
 use crate::comparing::holds;
 use crate::telemetry::logs::{MemoryLog, has_logged, log_up_to};
 use rad_log::LevelFilter;
+use rad_metrics::LedgerReading;
 use rad_telemetry::{FileSum, LedgerFault, LedgerState};
 use std::alloc::Global;
+use std::sync::atomic::Ordering;
 use std::test::Fail;
 use std::time::Clock;
 
 /// What happens to a ledger.
 #[derive(Clone, Copy)]
 enum Step {
-    /// An entry is put into the buffer.
-    Put,
+    /// An entry is put into the buffer at this time.
+    Put(u64),
     /// The response of this lane and serial is handed over.
     HandOver(u16, u64),
     /// The entry of this lane and serial is written.
     Pass(u16, u64),
     /// This many entries are written.
     Write(u64),
-    /// An entry finds no room.
-    Drop,
+    /// An entry of the client in this row finds no room.
+    Drop(Option<usize>),
     /// Entries can't be written.
     Fail(LedgerFault),
     /// Entries are written again.
@@ -48,11 +50,11 @@ const STEPS: &[Step] = &[
     Step::Fail(LedgerFault::Gone),
     Step::Fail(LedgerFault::Write(28)),
     Step::GoOn,
-    Step::Drop,
-    Step::Drop,
+    Step::Drop(Some(1)),
+    Step::Drop(Some(1)),
     Step::Tell,
     Step::Tell,
-    Step::Drop,
+    Step::Drop(Some(2)),
     Step::Tell,
     Step::Fail(LedgerFault::Sync(u32::MAX)),
     Step::Tell,
@@ -74,9 +76,9 @@ const STEPS: &[Step] = &[
     Step::HandOver(1, 4_294_967_305),
     Step::HandOver(2, 9),
     Step::Pass(1, 4_294_967_303),
-    Step::Put,
-    Step::Put,
-    Step::Put,
+    Step::Put(8_100),
+    Step::Put(8_200),
+    Step::Put(8_300),
     Step::Write(1),
     Step::TellLeft,
     Step::Pass(0, 0),
@@ -89,7 +91,7 @@ const STEPS: &[Step] = &[
     Step::Leave,
     Step::WriteLeft(1),
     Step::TellLeft,
-    Step::Put,
+    Step::Put(8_400),
     Step::TellLeft,
 ];
 
@@ -138,11 +140,11 @@ const ERRORS: &str =
 /// Lets a step happen to a ledger.
 fn happen(rt: &impl Clock, ledger: &LedgerState, log: &MemoryLog, step: Step) {
     match step {
-        Step::Put => ledger.count_put(),
+        Step::Put(time) => ledger.count_put(time),
         Step::HandOver(lane, serial) => ledger.hand_over(lane, serial),
         Step::Pass(lane, serial) => ledger.write(lane, serial),
         Step::Write(count) => ledger.count_written(count),
-        Step::Drop => ledger.count_dropped(),
+        Step::Drop(client) => ledger.count_dropped(client),
         Step::Fail(fault) => ledger.fail(fault),
         Step::GoOn => ledger.goes_on(),
         Step::Lose(lane, count, from, to) => ledger.lose(lane, count, from, to),
@@ -161,8 +163,14 @@ fn happen(rt: &impl Clock, ledger: &LedgerState, log: &MemoryLog, step: Step) {
     }
 }
 
-/// Returns whether the entries of these steps are counted, and whether the oldest one has its age, which is 0 if the
-/// clock went back and if there is none; and so of what is not synced.
+/// Returns how many entries of the client in a row were dropped, if there is such a client.
+fn dropped_of(reading: &LedgerReading<'_>, client: usize) -> Option<u64> {
+    let dropped = reading.client_dropped.get(client)?;
+    Some(dropped.load(Ordering::SeqCst))
+}
+
+/// Returns whether the entries of these steps are counted, and whether the oldest one has its age, which is that of the first
+/// one that was put while none waited, and 0 if the clock went back and if there is none; and so of what is not synced.
 fn is_counted(ledger: &LedgerState) -> bool {
     let reading = ledger.reading(9_000);
     ledger.set_oldest(Some(8_433));
@@ -178,7 +186,10 @@ fn is_counted(ledger: &LedgerState) -> bool {
         && reading.waiting == 1
         && reading.dropped == 3
         && reading.lost == 7
-        && reading.age == 0
+        && dropped_of(&reading, 0) == Some(0)
+        && dropped_of(&reading, 1) == Some(2)
+        && dropped_of(&reading, 2).is_none()
+        && reading.age == 900
         && age == 567
         && before == 0
         && without == 0
@@ -188,7 +199,7 @@ fn is_counted(ledger: &LedgerState) -> bool {
 
 /// Lets all steps happen to a ledger of two lanes, and returns whether exactly these lines are logged.
 fn tells(rt: &impl Clock, alloc: Global, log: &MemoryLog, expected: &str) -> Result<bool, Fail> {
-    let ledger = LedgerState::new(alloc, 2)?;
+    let ledger = LedgerState::new(alloc, 2, 2)?;
     for next in STEPS {
         happen(rt, &ledger, log, *next);
     }
