@@ -12,6 +12,7 @@ import re
 import socket
 import struct
 import subprocess
+import threading
 import time
 from collections import Counter
 from dataclasses import dataclass
@@ -24,6 +25,9 @@ from tests.lib import (ACCT_SESSION_ID, ACCT_STATUS_TYPE, HERE, NOTHING_LEFT, PA
 HASTY = "first_wait = 500\ntries = 1\ndown_wait = 600000\n"
 # How many requests of a home server are logged, and in how many seconds all that is left has to be in the ledger.
 LOGGED, WRITING = 20, 10.0
+# How many home servers leave something at once, and how many requests each. What a slow reader reads at once, and the seconds from one time
+# to the next. When the program ends at the latest where nobody reads: ten seconds after the first line, and one for the rest of it.
+HOMES, EACH, READ, APART, LAST, LATE = 64, 30, 8192, 0.1, 11.0, 2.0
 # How many requests are left in the largest test, and how many are sent before it is looked whether they came.
 MANY, BURST = 100_000, 200
 STATE = re.compile(r"queued (\d+) outstanding (\d+)")
@@ -56,19 +60,19 @@ class Asked:
 class Left(Proxy):
     """A program with home servers h0, h1 and so on, a NAS, and a folder for its ledger."""
 
-    def __init__(self, program, room):
-        self.room, self.folder, self.homes = room, room / "ledger", [Home(), Home()]
-        self.folder.mkdir()
-        self.nas, self.asked, port = bound(), {"h0": [], "h1": []}, free_port()
-        servers = [Server(f"h{lane}", home.port, f"queue = 65536\n{HASTY}", f"h{lane}.example", SECRET.decode()) for lane, home in enumerate(self.homes)]
+    def __init__(self, program, room, count=2, limits=HASTY):
+        self.room, self.folder, self.homes = room, room / "ledger", [Home() for _ in range(count)]
+        self.folder.mkdir(exist_ok=True)
+        self.nas, self.asked, port = bound(), {f"h{lane}": [] for lane in range(count)}, free_port()
+        servers = [Server(f"h{lane}", home.port, f"queue = 65536\n{limits}", f"h{lane}.example", SECRET.decode()) for lane, home in enumerate(self.homes)]
         super().__init__(program, room, configured(f"{HERE}:{port}", servers, secret=SECRET.decode()), (HERE, port))
         self.began = time.time()
 
-    def begin(self, stdin=subprocess.PIPE, **more):
-        """Starts the program, and waits until it listens."""
+    def begin(self, stdin=subprocess.PIPE, errors=None, **more):
+        """Starts the program, whose log may go elsewhere than to its file, and waits until it listens."""
         kept = {"RAD_PROXY_LEDGER": str(self.folder), "RAD_PROXY_COUNTERS": str(self.counters)}
         self.began = time.time()
-        self.start(stdin=stdin, env=environment() | kept | more)
+        self.start(stdin=stdin, env=environment() | kept | more, **({} if errors is None else {"stderr": errors}))
         self.listens()
 
     def slow_writes(self, *libraries):
@@ -379,11 +383,89 @@ def writes_all_of_many(trial):
     hope("the log", [len(trial.lines("left", home)) for home in trial.asked], [LOGGED + 1] * 2)
 
 
+class SlowReader:
+    """A pipe, of which a thread reads a little at a time, and what it has read."""
+
+    def __init__(self):
+        self.end, self.errors = os.pipe()
+        self.text = b""
+        self.thread = threading.Thread(target=self.read)
+
+    def read(self):
+        while octets := os.read(self.end, READ):
+            self.text += octets
+            time.sleep(APART)
+
+    def begins(self):
+        """From now on it reads, until the program has ended."""
+        os.close(self.errors)
+        self.thread.start()
+
+    def all(self):
+        """All that came."""
+        self.thread.join()
+        os.close(self.end)
+        return self.text
+
+
+def leaves_much(trial, errors=None, **more):
+    """A program of many home servers, none of which answers: each has as many requests."""
+    many = Left(trial.program, trial.room, HOMES, "first_wait = 60000\n")
+    many.begin(errors=errors, **more)
+    for home in many.asked:
+        many.ask(EACH, home)
+        until("they are accepted", lambda: sum(many.state()[int(home[1:])]) == EACH)
+    return many
+
+
+def names_those_of_many_homes(trial):
+    """Of 64 home servers with 30 requests each, 20 of each are in the log, and how many others there are; the ledger has all."""
+    many = leaves_much(trial)
+    try:
+        hope("the last line", many.ends(), f"end: queued 0 outstanding {HOMES * EACH} untaken 0")
+        many.tells({"outstanding": [each for requests in many.asked.values() for each in requests]})
+        hope("lost lines", many.lines("lines-dropped"), [])
+    finally:
+        many.stop()
+
+
+def names_them_to_a_slow_reader(trial):
+    """So it is where the log goes to a pipe that is read slowly: each line comes, with a ledger and without one."""
+    for folder in (str(trial.folder), ""):
+        reader = SlowReader()
+        many = leaves_much(trial, reader.errors, RAD_PROXY_LEDGER=folder)
+        try:
+            reader.begins()
+            many.ends()
+            many.log.write_bytes(reader.all())
+            many.tells_in_the_log({"outstanding": [each for requests in many.asked.values() for each in requests]})
+            hope("lost lines", many.lines("lines-dropped"), [])
+        finally:
+            many.stop()
+
+
+def ends_where_nobody_reads(trial):
+    """Where the log goes to a pipe that nobody reads, the program ends ten seconds later at the latest, and the ledger has all."""
+    end, errors = os.pipe()
+    many = leaves_much(trial, errors)
+    try:
+        began = time.monotonic()
+        many.ends()
+        took = time.monotonic() - began
+        need(took < LAST + LATE, "it ended", took, "seconds after its input")
+        many.tells_in_the_ledger({"outstanding": [each for requests in many.asked.values() for each in requests]})
+    finally:
+        os.close(end)
+        os.close(errors)
+        many.stop()
+
+
 TESTS = [
     names_all_that_a_dead_home_leaves, names_what_was_answered_and_not_taken, names_those_of_each_home,
     tells_nothing_where_nothing_is_left, logs_them_without_a_ledger, names_them_after_an_input_fault, names_them_after_an_output_fault,
     names_them_after_a_clock_fault, tells_that_it_can_tell_nothing, counts_what_it_could_not_write,
-    counts_the_one_that_it_could_not_write, counts_what_a_full_disk_took_not, writes_all_of_many,
+    counts_the_one_that_it_could_not_write, counts_what_a_full_disk_took_not, names_those_of_many_homes,
+    names_them_to_a_slow_reader, ends_where_nobody_reads, writes_all_of_many,
 ]
 
 

@@ -342,6 +342,10 @@ class Load:
         self.look()
         return self.seen[-1][1]
 
+    def dropped(self):
+        """How many lines the log dropped, since others held its buffer for too long."""
+        return sum(int(pairs_of(line)["count"]) for line in self.tracing.log() if "event=lines-dropped" in line)
+
     def left_out(self):
         """How many lines were left out each time that it was told, and that nothing else is in these lines."""
         told = [line for line in self.tracing.log() if "trace-left-out" in line]
@@ -363,7 +367,7 @@ def at_most_200_lines_a_second(program, folder):
             load.run(SECONDS)
             time.sleep(2.5)
             logged, left_out = load.count(), load.left_out()
-            hope("logged and left out", logged + sum(left_out), LINES * load.sent)
+            hope("logged, left out and dropped", logged + sum(left_out) + load.dropped(), LINES * load.sent)
             need(0 < len(left_out) <= SECONDS + 3, "how many lines tell it:", left_out)
             need(logged >= MOST * (SECONDS - 1), "logged are only", logged)
             tracing.stage.nas.socket.settimeout(PATIENCE)
@@ -386,7 +390,7 @@ def what_is_left_out_is_told_at_the_end(program, folder):
         load = Load(tracing)
         load.run(0.5)
         tracing.stage.ends()
-        hope("logged and left out", load.count() + sum(load.left_out()), LINES * load.sent)
+        hope("logged, left out and dropped", load.count() + sum(load.left_out()) + load.dropped(), LINES * load.sent)
 
 
 def at_its_own_level_no_line_is_left_out(program, folder):
@@ -397,7 +401,7 @@ def at_its_own_level_no_line_is_left_out(program, folder):
         for _ in range(15):
             load.run(0.02)
             time.sleep(0.05)
-        need(is_so(lambda: load.count() == LINES * load.sent), "lines", load.count(), "of", LINES * load.sent)
+        need(is_so(lambda: load.count() + load.dropped() == LINES * load.sent), "lines", load.count(), "of", LINES * load.sent)
         need(load.sent > MOST // LINES * 4, "too few were sent:", load.sent)
         tracing.stage.ends()
         hope("left out", load.left_out(), [])

@@ -25,7 +25,7 @@ mod writer_state;
 pub use error_lines::{ErrorLines, WaitForRoom, open_each_level, open_log};
 pub use escaped::Escaped;
 pub use line_buffer::LineBuffer;
-pub use locking::lock_soon;
+pub use locking::{lock_soon, read_soon};
 pub use log::kv::Source;
 pub use log::span::Spans;
 pub use log::{Level, LevelFilter, Log, Logged, Metadata, Record};

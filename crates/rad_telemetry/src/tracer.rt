@@ -6,13 +6,13 @@ ghost use Rattle.rad_telemetry.specs.Traced.{TakesLine, fits, is_one as the_one}
 use crate::lines::LeftOutLine;
 use rad_desk::{Origin, Session, Worker, WorkerReport, user_of};
 use rad_lane::session_of;
-use rad_log::{Level, Log, lock_soon, tell};
+use rad_log::{Level, Log, lock_soon, read_soon, tell};
 use rad_packet::read;
 use rad_realms::Endpoint;
 use std::alloc::Global;
 use std::mem;
 use std::sync::atomic::{AtomicBool, AtomicU64, Ordering};
-use std::sync::{Mutex, Wait};
+use std::sync::{Mutex, RwLock, Wait};
 
 /// The most lines about what is traced that are logged in a second.
 const MOST_LINES: u64 = 200;
@@ -98,7 +98,7 @@ pub struct Tracer<L> {
     /// A log of each level.
     pub(crate) log: L,
     is_on: AtomicBool,
-    wanted: Mutex<Vec<Wanted>>,
+    wanted: RwLock<Vec<Wanted>>,
     second: Mutex<LineSecond>,
     /// How many lines were left out, and not told yet.
     left_out: AtomicU64,
@@ -110,7 +110,7 @@ impl<L> Tracer<L> {
         Tracer {
             log,
             is_on: AtomicBool::new(false),
-            wanted: Mutex::new(Vec::new(alloc)),
+            wanted: RwLock::new(Vec::new(alloc)),
             second: Mutex::new(LineSecond { since: 0, count: 0 }),
             left_out: AtomicU64::new(0),
         }
@@ -123,19 +123,19 @@ impl<L> Tracer<L> {
 
     /// Traces all of these from now on, and nothing else. `wanted` gets what was traced before.
     pub(crate) fn set<R: Wait>(&self, rt: &R, wanted: &mut Vec<Wanted>) {
-        let mut own = self.wanted.lock(rt);
+        let mut own = self.wanted.write(rt);
         mem::swap(&mut *own, wanted);
         self.is_on.store(!own.is_empty(), Ordering::SeqCst);
     }
 
-    /// Returns the number of the first of those that are traced, from 1 on, that a worker's report is about. While
-    /// others hold the lock for too long, none is found.
+    /// Returns the number of the first of those that are traced, from 1 on, that a worker's report is about. While these are
+    /// replaced and that takes too long, none is found.
     pub(crate) fn find(&self, worker: Worker, report: &WorkerReport<'_>) -> Option<usize> {
         if !self.is_on() {
             return None;
         }
         let subject = subject_of(worker, report)?;
-        place_of(lock_soon(&self.wanted)?.as_slice(), &subject)
+        place_of(read_soon(&self.wanted)?.as_slice(), &subject)
     }
 }
 

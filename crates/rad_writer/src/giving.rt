@@ -1,6 +1,6 @@
 //! The front's end of the buffer.
 
-ghost use Rattle.std.specs.Prelude.{◌≡◌, ◌≤◌, ◌<◌, ◌+◌, ◌++◌, length, IsTrue, MatchBool};
+ghost use Rattle.std.specs.Prelude.{◌≡◌, ◌≤◌, ◌<◌, ◌+◌, ◌-◌, ◌++◌, ◌↔◌, ◌⊎◌, length, IsTrue, MatchBool};
 ghost use Rattle.rtrb.specs.Ring.{known_free, sent, ProducerLooked, SameProducer};
 ghost use Rattle.rad_writer.specs.Parcels.{all_octets};
 
@@ -69,7 +69,7 @@ impl ParcelGiver {
         ensures succeeds { Fits parcel.now.head → 0 < known_free self.old.heads → octets_of parcel.now.head ≤ known_free self.old.packets → ¬ IsBeyondEither clients held parcel.now.head (known_free self.old.heads) (known_free self.old.packets) → IsTrue result }
         ensures within { IsTrue result → ¬ IsBeyondEither clients held parcel.now.head (known_free self.new.heads + 1) (known_free self.new.packets + octets_of parcel.now.head) }
     {
-        if parcel.head.fits() && self.is_beyond(&parcel.head, clients, held) {
+        if !parcel.head.fits() || self.is_beyond(&parcel.head, clients, held) {
             return false;
         }
         self.give(parcel)

@@ -120,12 +120,17 @@ impl<R: Clock> LedgerInlet<'_, R> {
 fn add_put(puts: &mut Vec<Taking>, row: Option<usize>, parcel: &Parcel<'_>)
     ensures { vec_len puts.new ≡ vec_len puts.old }
 {
+    let Some(row) = row else {
+        return;
+    };
     let octets = parcel.sent.len() as u64;
     let octets = octets.saturating_add(parcel.reply.len() as u64);
     let octets = octets.saturating_add(parcel.response.len() as u64);
-    if let Some(put) = row.and_then(|row| puts.get_mut(row)) {
-        put.octets = put.octets.saturating_add(octets);
-        put.places = put.places.saturating_add(1);
+    if let Some(put) = puts.get_mut(row) {
+        *put = Taking {
+            octets: put.octets.saturating_add(octets),
+            places: put.places.saturating_add(1),
+        };
     }
 }
 
