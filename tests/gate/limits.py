@@ -62,7 +62,9 @@ NUMBERS = {
     "rad_lane/src/session.rt": {"ACCT_SESSION_ID": ("44", PROVED)},
     "rad_ledger/src/numbers.rt": {"MOST_RANGES": ("4096", PROVED)},
     "rad_log/src/levels.rt": {"ROOM": ("16", CHOICE)},
-    "rad_log/src/line_queue.rt": {"ROOM": ("65_536", "faults/counters_and_log_files LOST"), "LONGEST": ("4096", CHOICE)},
+    "rad_log/src/line_queue.rt": {
+        "ROOM": ("65_536", "faults/counters_and_log_files LOST"), "LONGEST": ("4096", CHOICE), "ENOUGH": ("4 * LONGEST", CHOICE),
+        "LOOK": ("1", CHOICE), "PATIENCE": ("5000", f"{LEFT} ends_where_nobody_reads"), "LAST": ("10_000", f"{LEFT} ends_where_nobody_reads")},
     "rad_log/src/line_writer.rt": {"MOST": ("4096", CHOICE), "LOST_LINE": ("64", CHOICE)},
     "rad_log/src/locking.rt": {"TRIES": ("2000", CHOICE)},
     "rad_log/src/writer_state.rt": {"WORK": ("1", FORM), "END": ("2", FORM)},
@@ -118,6 +120,7 @@ NUMBERS = {
     "rad_telemetry/src/trace_file.rt": {
         "MOST_LINES": ("16", "network/traced_lines TESTS"), "MOST_OCTETS": ("4096", "network/traced_lines TESTS"),
         "MOST_VALUE": ("253", FORM)},
+    "rad_telemetry/src/tracer.rt": {"MOST_LINES": ("200", PROVED), "SECOND": ("1_000_000", PROVED)},
     "rad_telemetry/src/reporter.rt": {"PERIOD": ("1000", "timing/metrics_over_time TESTS"), "ASKED": ("40", CHOICE)},
     "rad_writer/src/filling.rt": {"SIZE": ("262_144", CHOICE), "LINES": ("1024", CHOICE)},
     "rad_writer/src/inlet.rt": {"LOOK": ("1", CHOICE)},
@@ -125,7 +128,7 @@ NUMBERS = {
     "rad_writer/src/file_before.rt": {
         "READ_OCTETS": ("65_536", CHOICE), "RUN_DIGITS": ("16", "ledger/written_ledgers names_the_file_of_another_run_before"),
         "NUMBER_DIGITS": ("6", "ledger/written_ledgers names_the_file_of_another_run_before")},
-    "rad_writer/src/opening.rt": {
+    "rad_writer/src/giving.rt": {
         "ROOM": ("67_108_864", "ledger/written_ledgers BOUND"),
         "PLACES": ("180_000", "ledger/written_ledgers a_hundred_eighty_thousand_small_entries_wait")},
     "rad_writer/src/parcel.rt": {"LONGEST": ("4096", PROVED), "MOST": ("3 * LONGEST", PROVED)},

@@ -104,6 +104,7 @@ SCRIPTS = [
     Script("ledger/written_lines", is_alone=True),
     Script("ledger/folders_and_writes", is_alone=True),
     Script("ledger/days_of_files", is_alone=True),
+    Script("ledger/shares", is_alone=True),
     Script("ledger/disk_faults", is_alone=True),
     Script("ledger/auditor_spoiled_lines", AUDITOR, is_alone=True),
     Script("tools/judge"),
