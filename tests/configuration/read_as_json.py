@@ -69,6 +69,8 @@ class Printing(Trial):
     def run(self):
         for what, octets, fault in [*rows_of_tables(), *rows_of_conversations(), *files()]:
             self.reads(what, octets, fault)
+        for row in files():
+            self.reads_by_module(*row)
         for at, (line, secret) in enumerate(BEYOND.items()):
             self.reads_beyond(f"beyond {at}", WHOLE.replace('secret = "nas-secret"', line, 1), secret)
         self.keeps_secrets()
@@ -97,7 +99,11 @@ class Printing(Trial):
             wanted = tables_of(octets.decode("utf-8-sig"), has_secrets)
             self.compare(f"{what} {words}", (status, printed.count(b"\n"), printed[-1:], told), (0, 1, b"\n", b""))
             self.compare(f"{what} {words}: tables", json.loads(printed or b"0"), wanted)
-            self.compare(f"{what} {words}: the module", configuration.read(file, has_secrets), wanted)
+
+    def reads_by_module(self, what, octets, _):
+        """Looks at the same by the module of the tools."""
+        for has_secrets in (False, True):
+            self.compare(f"{what}: the module", configuration.read(self.file(octets), has_secrets), tables_of(octets.decode(), has_secrets))
 
     def reads_beyond(self, what, text, secret):
         file = self.file(text.encode())

@@ -23,9 +23,12 @@ from tests.lib import (ACCT_SESSION_ID, ACCT_STATUS_TYPE, CLASS, HOME_SECRET, NA
 from tests.lib.tools import capturing
 from tests.lib.tools.capturing import COOKED, COOKED_2, ETHERNET, RAW, START, framed, ipv4, pcap, pcapng, udp
 from tests.lib.tools.running import TOOLS, run, want
-from tools.trial.faults import Fault
-from tools.trial.judge import Judge, findings
-from tools.trial.settings import read_settings
+
+# The modules of the tools find those beside them.
+sys.path.insert(0, str(TOOLS))
+from tools.trial.faults import Fault  # noqa: E402
+from tools.trial.judge import Judge, findings  # noqa: E402
+from tools.trial.settings import read_settings  # noqa: E402
 
 tool = functools.partial(run, "rad_trial")
 
