@@ -351,9 +351,9 @@ def its_output_is_full(service):
 
 
 def what_is_left_over_is_a_warning(service):
-    """Status 3 comes with a line of the log at warn, and without it at error."""
+    """Status 3 comes with a line of the log at warn, and without it at error, in letters of either case."""
     left = ["level=warn event=left", "level=warn event=left-over queued=0 outstanding=1 untaken=0"]
-    for level, lines in (("warn", left), ("error", [])):
+    for level, lines in (("warn", left), ("WARN", left), ("Info", left), ("error", []), ("ERROR", []), ("Error", []), ("OFF", [])):
         service.configure(linger=200)
         service.environment["RAD_PROXY_LOG"] = level
         process = service.start()
@@ -361,7 +361,8 @@ def what_is_left_over_is_a_warning(service):
         service.home.recvfrom(4096)
         process.terminate()
         hope("status", process.wait(PATIENCE), 3)
-        hope(f"log at {level}", [line.partition(" home=")[0] for line in service.log.read_text().splitlines()], lines)
+        told = [line.partition(" home=")[0] for line in service.log.read_text().splitlines()]
+        hope(f"log at {level}", [line for line in told if not line.startswith("level=info")], lines)
 
 
 def counters_elsewhere_are_told(service):

@@ -2,9 +2,10 @@
 input, which comes with the end of this program, whatever that is."""
 import os
 import select
+import signal
 
 from . import bounds
-from .answers import lines_of, octets_of
+from .answers import NoProxy, lines_of, octets_of
 from .owner import fault_of
 
 MADE = b"made\n"
@@ -25,15 +26,19 @@ class Holder:
             if not part:
                 break
             octets += part
-        self.is_made, self.told = octets == MADE, octets
-        if not self.is_made:
-            self.fail()
+        if octets != MADE:
+            self.fail(octets)
 
-    def fail(self):
+    def fail(self, octets):
         """Says why the file was not made."""
         self.process.close_input()
-        lines = lines_of(self.told + octets_of(self.process, bounds.ALL_SECONDS))
-        raise self.fault(self.process.wait(), lines)
+        try:
+            lines = lines_of(octets + octets_of(self.process, bounds.ALL_SECONDS))
+            status = self.end()
+        except NoProxy:
+            self.end()
+            status, lines = bounds.NO_PROXY, []
+        raise self.fault(status, lines)
 
     def fault(self, status, lines):
         return fault_of(self.folder.path, status, lines)
@@ -50,6 +55,9 @@ class Holder:
         return bool(select.select([self.process.output], [], [], seconds)[0])
 
     def end(self):
-        """Has the process remove the file, if it is to, and end: its status."""
+        """Has the process remove the file, if it is to, and end: its status. One that its owner keeps from that is killed."""
         self.process.close_input()
+        if not self.process.has_ended(bounds.READ_SECONDS):
+            self.process.kill(signal.SIGKILL)
+        self.process.close_output()
         return self.process.wait()

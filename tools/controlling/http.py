@@ -110,7 +110,11 @@ class Server:
         """Takes a connection in. Where there are as many as there may be, another one makes room."""
         try:
             made, _ = self.listening.accept()
+        except (BlockingIOError, ConnectionError):
+            return
         except OSError:
+            self.make_room()
+            time.sleep(0.01)
             return
         self.last = time.monotonic()
         try:
@@ -119,11 +123,15 @@ class Server:
             made.close()
             return
         if len(self.connections) >= MOST_CONNECTIONS - 1:
-            first = min(self.connections, key=Connection.rank)
-            if first.rank() < 2:
-                self.close(first)
+            self.make_room()
         self.connections.append(one)
         self.selector.register(made, selectors.EVENT_READ, one)
+
+    def make_room(self):
+        """Closes one of those that need not be answered."""
+        first = min(self.connections, key=Connection.rank, default=None)
+        if first is not None and first.rank() < 2:
+            self.close(first)
 
     def close(self, one):
         if not one.is_waiting:
@@ -233,10 +241,14 @@ def answer_one(folder):
 
 
 def passed():
-    """The listening socket that systemd passes, or None."""
+    """The listening socket that systemd passes, or None: also where it is a connection, which is standard input then."""
     if os.environ.get("LISTEN_PID") != str(os.getpid()) or os.environ.get("LISTEN_FDS") != "1":
         return None
-    return socket.socket(fileno=FIRST_PASSED)
+    made = socket.socket(fileno=FIRST_PASSED)
+    if made.getsockopt(socket.SOL_SOCKET, socket.SO_ACCEPTCONN):
+        return made
+    made.close()
+    return None
 
 
 def answer_http(folder):

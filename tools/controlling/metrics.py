@@ -48,12 +48,15 @@ def check_numbers(folder, status):
 def see_own(file):
     """Whether there is a file: it is empty, or one that this program wrote. Any other one is a fault, and so is a link."""
     try:
+        if not stat.S_ISREG(os.lstat(file).st_mode):
+            raise Fault(f"{file} is no regular file")
         descriptor = os.open(file, os.O_RDONLY | os.O_NOFOLLOW | os.O_NONBLOCK | os.O_NOCTTY | os.O_CLOEXEC)
     except FileNotFoundError:
         return False
     except OSError as error:
-        told = "is no regular file" if error.errno in (errno.ELOOP, errno.ENXIO, errno.ENODEV) else f"cannot be read: {error.strerror}"
-        raise Fault(f"{file} {told}" if error.errno != errno.ENOTDIR else f"cannot write {file}") from None
+        if error.errno == errno.ELOOP:
+            raise Fault(f"{file} is no regular file") from None
+        raise Fault(f"cannot write {file}" if error.errno == errno.ENOTDIR else f"{file} cannot be read: {error.strerror}") from None
     try:
         if not stat.S_ISREG(os.fstat(descriptor).st_mode):
             raise Fault(f"{file} is no regular file")

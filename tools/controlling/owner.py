@@ -17,7 +17,7 @@ from .output import tell
 from .processes import SYSTEM_PATH, Process, bounded, found, given_environment
 
 ASKING = os.path.join(os.path.dirname(os.path.realpath(__file__)), "asking.py")
-ISOLATED = [sys.executable or "/usr/bin/python3", "-IBS"]
+ISOLATED = [sys.executable or "/usr/bin/python3", "-IBSXutf8"]
 BARE = {"PATH": SYSTEM_PATH}
 
 

@@ -20,7 +20,12 @@ def given_environment():
 
 def close_others(least=3):
     """Closes each descriptor from this one on, whoever opened it."""
-    for name in os.listdir("/proc/self/fd"):
+    try:
+        names = os.listdir("/proc/self/fd")
+    except OSError:
+        os.closerange(least, os.sysconf("SC_OPEN_MAX"))
+        return
+    for name in names:
         if int(name) >= least:
             try:
                 os.close(int(name))
@@ -61,9 +66,16 @@ class Process:
 
     def __init__(self, words, environment, folder=None, has_input=False, has_errors=True, has_signals=True):
         self.status = None
-        reading, writing = os.pipe()
-        given, ours = os.pipe() if has_input else (os.open(os.devnull, os.O_RDONLY), None)
-        self.pid = os.fork()
+        self.output, writing = os.pipe()
+        given, self.input = os.pipe() if has_input else (os.open(os.devnull, os.O_RDONLY), None)
+        try:
+            self.pid = os.fork()
+        except OSError:
+            self.close_output()
+            self.close_input()
+            os.close(writing)
+            os.close(given)
+            raise
         if self.pid == 0:
             try:
                 errors = writing if has_errors else os.open(os.devnull, os.O_WRONLY)
@@ -74,7 +86,6 @@ class Process:
                 os._exit(CANNOT_START)
         os.close(writing)
         os.close(given)
-        self.output, self.input = reading, ours
 
     def close_output(self):
         if self.output is not None:
@@ -93,13 +104,21 @@ class Process:
             self.status = code if code >= 0 else 128 - code
         return self.status
 
-    def has_ended(self):
-        if self.status is None:
+    def has_ended(self, seconds):
+        """Whether it ends in these seconds."""
+        import time
+
+        until = time.monotonic() + seconds
+        while self.status is None:
             pid, code = os.waitpid(self.pid, os.WNOHANG)
             if pid:
                 code = os.waitstatus_to_exitcode(code)
                 self.status = code if code >= 0 else 128 - code
-        return self.status is not None
+            elif time.monotonic() >= until:
+                return False
+            else:
+                time.sleep(0.005)
+        return True
 
     def kill(self, number):
         """Sends a signal to all of its group, where it has not ended."""

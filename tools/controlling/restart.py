@@ -129,6 +129,8 @@ class Restart:
         """Drains the proxy. Where it does not obey, the file `out` is removed, unless the lanes are drained all the same or may be yet."""
         self.stops.wait()
         self.stops.ignore(signal.SIGHUP, signal.SIGPIPE)
+        if self.stops.came is not None:
+            raise Stopped(self.stops.came)
         try:
             ask(self.folder, "drain")
             out.keep()

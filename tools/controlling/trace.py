@@ -75,9 +75,7 @@ class Log:
 
     def end(self):
         self.process.kill(signal.SIGTERM)
-        until = time.monotonic() + END_SECONDS
-        while not self.process.has_ended() and time.monotonic() < until:
-            time.sleep(0.01)
+        self.process.has_ended(END_SECONDS)
         self.process.kill(signal.SIGKILL)
         self.process.wait()
 
