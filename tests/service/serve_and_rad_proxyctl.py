@@ -606,7 +606,7 @@ def metrics_replace_nobody_elses_file(service):
         (folder / name).symlink_to(target)
     (folder / "folder").mkdir()
     os.mkfifo(folder / "fifo")
-    another = f"is another one's: it does not begin with # HELP rad_proxy_"
+    another = "is no file of metrics: it neither is empty nor begins with # HELP rad_proxy_"
     kept = {folder / name: another for name in contents}
     kept |= {folder / name: "is no regular file" for name in ("link", "broken", "loop", "to-empty", "folder", "fifo")}
     kept[pathlib.Path("/dev/full")] = "is no regular file"

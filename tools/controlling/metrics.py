@@ -64,7 +64,7 @@ def see_own(file):
     finally:
         os.close(descriptor)
     if begun not in (b"", OWN):
-        raise Fault(f"{file} is another one's: it does not begin with {OWN.decode()}")
+        raise Fault(f"{file} is no file of metrics: it neither is empty nor begins with {OWN.decode()}")
     return True
 
 
