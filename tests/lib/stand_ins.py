@@ -35,7 +35,7 @@ class StandIn(threading.Thread):
         super().__init__(daemon=True)
         self.folder, self.is_over = folder, False
         self.mode, self.queued, self.outstanding, self.rate = "open", 0, 0, 0
-        self.reads, self.answers_drain, self.writes = True, True, False
+        self.reads, self.answers_drain, self.stops_at_drain, self.writes = True, True, False, False
         self.drained_at, self.begun = None, time.monotonic()
         folder.mkdir(0o700)
         os.mkfifo(folder / "commands", 0o600)
@@ -55,6 +55,9 @@ class StandIn(threading.Thread):
         if command == "state":
             self.asked += 1
             return self.line()
+        if command == "drain" and self.stops_at_drain:
+            self.reads = False
+            return None
         if command == "drain":
             self.mode, self.drained_at = "draining" if self.queued + self.outstanding else "done", time.monotonic()
             return "drain: 0 7" if self.answers_drain else None

@@ -28,6 +28,10 @@ class NoService(Fault):
         super().__init__(text, bounds.FAILED)
 
 
+class MayObey(NoService):
+    """No answer came, and the proxy may obey the command yet."""
+
+
 def identity_of(it):
     """What has the owner of a folder run a command in place of root."""
     import pwd
@@ -106,15 +110,16 @@ def fault_of(path, status, lines):
         bounds.NO_SERVICE: f"no service in {path}, or no right to ask it",
         bounds.HAS_ENDED: "the proxy has ended",
         bounds.NO_ANSWER: f"no answer in {bounds.ANSWER_SECONDS} seconds",
-        bounds.WAS_READ: f"no answer in {bounds.ANSWER_SECONDS} seconds, but the proxy has read the command and may obey it yet",
         bounds.NO_PROXY: f"what answers in {path} is no proxy",
     }
     if status in told:
         return NoService(told[status])
+    if status == bounds.WAS_READ:
+        return MayObey(f"no answer in {bounds.ANSWER_SECONDS} seconds, but the proxy has read the command and may obey it yet")
     if status == bounds.IS_BUSY:
         return Fault("another one is asking")
     if 130 <= status < 200:
-        return NoService(f"no answer in {bounds.ALL_SECONDS} seconds, and the proxy may obey the command yet")
+        return MayObey(f"no answer in {bounds.ALL_SECONDS} seconds, and the proxy may obey the command yet")
     if lines:
         tell("\n".join(lines)[:bounds.LONGEST_LINE])
     return Fault(f"could not ask in {path}")

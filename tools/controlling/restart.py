@@ -13,7 +13,7 @@ from .check import VARIABLES, checker
 from .holding import Holder
 from .lanes import lanes_of
 from .output import end_by, say, tell
-from .owner import Folder, ask, run
+from .owner import Folder, MayObey, ask, run
 from .processes import found, given_environment
 from .processes import run as run_command
 from .stops import Stopped, Stops
@@ -126,7 +126,8 @@ class Restart:
                           f"at the rate of the last {bounds.RATE_SECONDS}")
 
     def drain(self, out):
-        """Drains the proxy. Where it does not obey, the file `out` is removed, unless the lanes are drained all the same or may be yet."""
+        """Drains the proxy. Where it does not obey, the holder of the file `out` removes it, unless it sees the lanes drained all the same.
+        It stays too where the proxy has read the command, and nobody can say whether it drains."""
         self.stops.wait()
         self.stops.ignore(signal.SIGHUP, signal.SIGPIPE)
         if self.stops.came is not None:
@@ -137,10 +138,8 @@ class Restart:
             return
         except (Fault, OSError) as fault:
             tell(f"rad_proxyctl: {printable(str(fault))}")
-            may_drain = "may obey" in str(fault)
-        lanes = self.look_or_none()
-        if may_drain if lanes is None else any(lane.mode != "open" for lane in lanes):
-            out.keep()
+            if isinstance(fault, MayObey) and self.look_or_none() is None:
+                out.keep()
         raise Fault("not restarted")
 
     def go_out(self):
