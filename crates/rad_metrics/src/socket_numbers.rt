@@ -2,7 +2,7 @@
 //! because that was full. The system reports that in /proc/self/net/udp, in a line for each socket. The second word is
 //! the address and port that it is bound to, in hexadecimal, and the last one how many datagrams were dropped there.
 
-ghost use Rattle.std.specs.Prelude.{◌≡◌};
+ghost use Rattle.std.specs.Prelude.{◌≡◌, ◌≤◌};
 ghost use Rattle.rad_metrics.specs.Families.{described_by};
 ghost use Rattle.rad_metrics.specs.Metrics.{socket_family, socket_value, dropped_so_far};
 
@@ -123,7 +123,8 @@ impl SocketNumbers {
 /// Returns how many datagrams were dropped so far at a socket, of which `before` are known, if the system shows this
 /// number of them. The system counts up to 32 bits and then from 0 again. A number that falls otherwise changes nothing.
 pub fn dropped_by(before: u64, shown: u32) -> u64
-    ensures { result ≡ dropped_so_far before shown }
+    ensures counted { result ≡ dropped_so_far before shown }
+    ensures grows { before ≤ result }
 {
     let more = (u64::from(shown) + (1 << 32) - before % (1 << 32)) % (1 << 32);
     match before.checked_add(more) {
