@@ -6,11 +6,10 @@ use crate::locking::lock_soon;
 use crate::writer_state::WriterState;
 use std::alloc::{AllocError, Global};
 use std::fmt::Display;
-use std::mem;
 use std::sync::atomic::{AtomicU64, Ordering};
 use std::sync::{Mutex, OnceLock, Wait};
-use std::thread;
 use std::time::{Clock, Duration, Instant};
+use std::{mem, thread};
 
 /// The most octets of lines that may wait.
 const ROOM: usize = 65_536;

@@ -34,4 +34,4 @@ pub use rad_metrics::{FileSum, LedgerFault, LedgerState, log_ledger_fault, syste
 pub use reporter::{Reporter, StopFlag, report};
 pub use telemetry::Telemetry;
 pub use trace_file::{TraceFault, TraceText, find_trace_file, read_trace_text};
-pub use tracer::{Subject, Tracer, Wanted};
+pub use tracer::{LineSecond, Subject, Tracer, Wanted};

@@ -108,11 +108,7 @@ fn free_of<T>(ring: &mut Producer<T, Global>, enough: usize) -> usize
     ensures value { result ≡ known_free ring.new }
 {
     let known = ring.cached_slots();
-    if known >= enough {
-        known
-    } else {
-        ring.slots()
-    }
+    if known >= enough { known } else { ring.slots() }
 }
 
 /// Adds octets for which there is room.

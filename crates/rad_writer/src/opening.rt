@@ -121,10 +121,7 @@ struct Shared {
 /// # Errors
 ///
 /// `AllocError` if memory is refused.
-fn open_buffer(
-    alloc: Global,
-    shared: &Shared,
-) -> Result<(ParcelGiver, EntryBuffer), AllocError>
+fn open_buffer(alloc: Global, shared: &Shared) -> Result<(ParcelGiver, EntryBuffer), AllocError>
     ensures { IfOk result (λ ends. HasRoom 67108864 180000 ends.0) }
 {
     let (packets, taken_packets) = RingBuffer::new(alloc, ROOM)?;
