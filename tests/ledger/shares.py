@@ -11,7 +11,7 @@ import time
 from tests.lib import CLASS, HERE, Server, attribute, bound, built, configured, free_port, hope, need, try_named, until
 from tests.lib.ledger.trials import Trial
 
-# What makes each of the two packets of an answer about 3500 octets long, of which the buffer has 64 MiB.
+# What makes each of the three packets of an entry about 3600 octets long, of which the buffer has 64 MiB.
 MORE = b"".join(attribute(CLASS, bytes(250)) for _ in range(14))
 # How many records the other client sends, and how many of those that flood send at once, one after the other.
 QUIET, AT_ONCE = 300, 100
@@ -42,7 +42,7 @@ class Flood(Trial):
     def asks(self, client, count, more=b""):
         """This client sends so many records, each of which is acknowledged."""
         self.nas, self.told = self.sockets[client], self.by_client[client]
-        hope("acknowledged", self.ask(count, more), count)
+        hope("acknowledged", self.ask(count, more, own=more), count)
 
     def floods(self, clients):
         """These clients send records in turn until entries of each of them are dropped, each as many as the others."""

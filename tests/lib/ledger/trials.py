@@ -42,15 +42,16 @@ class Trial(Proxy):
         kept = {"RAD_PROXY_LEDGER": str(self.folder), "RAD_PROXY_COUNTERS": str(self.counters)}
         self.start_printing(environment() | kept | variables, preexec_fn=before, stdin=stdin)
 
-    def ask(self, count, more=b"", seconds=PATIENCE):
-        """Sends so many requests, and answers them; each is sent until it is acknowledged. Gives how many were in this time."""
+    def ask(self, count, more=b"", seconds=PATIENCE, own=b""):
+        """Sends so many requests, with these attributes of their own, and answers them; each is sent until it is acknowledged. Gives how many
+        were in this time."""
         self.home.setblocking(False)
         self.nas.setblocking(False)
         waiting, left, last = {}, count, time.monotonic() + seconds
         while (waiting or left) and time.monotonic() < last and self.ran.poll() is None:
             while left and len(waiting) < OUTSTANDING:
                 identifier, self.made, left = self.made % 256, self.made + 1, left - 1
-                octets = request(identifier, START + attribute(ACCT_SESSION_ID, f"S{self.made}".encode()), NAS_SECRET)
+                octets = request(identifier, START + attribute(ACCT_SESSION_ID, f"S{self.made}".encode()) + own, NAS_SECRET)
                 now = time.monotonic()
                 waiting[identifier] = [octets, now, now]
                 self.nas.sendto(octets, self.listen)
