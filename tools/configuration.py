@@ -14,7 +14,7 @@ HERE = pathlib.Path(__file__).resolve().parent
 PLACES = [HERE / NAME, HERE.parents[1] / "libexec" / "rad_proxy" / NAME, pathlib.Path("/usr/libexec/rad_proxy", NAME),
           pathlib.Path("/usr/local/libexec/rad_proxy", NAME), HERE.parent / "crates" / NAME / "out" / NAME]
 # The longest configuration has a megabyte of TOML, of which each character may be printed as six.
-MOST_OCTETS, SECONDS = 8_388_608, 30
+MOST_OCTETS, MOST_SAID, SECONDS = 8_388_608, 1024, 30
 # The status of a configuration that has a fault, and of all other faults.
 CONFIGURATION, FAILED = 2, 4
 
@@ -52,6 +52,25 @@ def printed(words):
             clock.cancel()
 
 
+def reason_of(path):
+    """Why the system does not open a file, as the end of a line."""
+    try:
+        os.close(os.open(path, os.O_RDONLY | os.O_NONBLOCK | os.O_CLOEXEC))
+    except OSError as error:
+        return f": {error.strerror}"
+    return ""
+
+
+def fault_of(path, octets, status):
+    """What the program tells of a configuration that it does not print. What it printed of one is not told: it may have secrets."""
+    said = "" if octets.startswith(b"{") else octets[:MOST_SAID].decode("utf-8", "replace").partition("\n")[0]
+    if status == CONFIGURATION:
+        return Unread(said, CONFIGURATION)
+    if said.startswith("file: "):
+        return Unread(said + reason_of(path))
+    return Unread(f"{NAME}: {said or f'it ended with status {status}'}")
+
+
 def read(path, with_secrets):
     """The tables of the configuration in a file; without `with_secrets` no table has a key `secret`."""
     place = program()
@@ -60,8 +79,7 @@ def read(path, with_secrets):
     except OSError as error:
         raise Unread(f"{NAME}: {error.strerror}: {place}") from None
     if status:
-        said = octets[:1024].decode("utf-8", "replace").strip() or f"it ended with status {status}"
-        raise Unread(said if status in (CONFIGURATION, FAILED) else f"{NAME}: {said}", CONFIGURATION if status == CONFIGURATION else FAILED)
+        raise fault_of(path, octets, status)
     try:
         return json.loads(octets)
     except ValueError:

@@ -5,6 +5,7 @@ usage: python3 -m tests.configuration.read_as_json CONFIG_JSON
 What Python's reader does not take, or takes otherwise, stands here with what it is. A configuration with a fault has to end with the line
 that `check` refuses it with. Secrets are printed to a pipe alone. The last line is `N passed, M failed`, of what was looked at.
 """
+import contextlib
 import json
 import os
 import pty
@@ -75,6 +76,7 @@ class Printing(Trial):
             self.reads_beyond(f"beyond {at}", WHOLE.replace('secret = "nas-secret"', line, 1), secret)
         self.keeps_secrets()
         self.ends()
+        self.is_told()
         self.is_bounded()
 
     def ended(self, *words, **how):
@@ -171,6 +173,31 @@ class Printing(Trial):
             self.compare("a full output", self.ended(file, **how), (4, None, b""))
         self.compare("a pipe", self.ended("/dev/stdin", stdin=None, input=WHOLE.encode())[0], 0)
 
+    def is_told(self):
+        """What the module of the tools tells of files, and of programs that print nothing, too much or no end."""
+        file, absent = self.file(WHOLE.encode()), self.folder / "absent"
+        self.tells(absent, f"file: {absent}: No such file or directory", 4)
+        self.tells(self.folder, f"file: {self.folder}", 4)
+        self.tells(self.file(b"listen = 1\n"), "configuration: WrongType at top listen", 2)
+        self.file(WHOLE.encode())
+        none = "what it printed is no JSON, or too long"
+        for body, told in (("exit 0", none), ("exit 7", "it ended with status 7"), ("echo no; exit 1", "no"), ("echo '{'", none),
+                           ("exec yes '{'", "it ended with status -9"), ("echo '{secret'; exit 4", "it ended with status 4")):
+            other = self.folder / "other"
+            other.write_text(f"#!/bin/sh\n{body}\n")
+            other.chmod(0o755)
+            with named(other):
+                self.tells(file, f"config_json: {told}", 4)
+        with named(self.folder / "none"):
+            self.tells(file, f"config_json: No such file or directory: {self.folder}/none", 4)
+
+    def tells(self, file, text, status):
+        try:
+            found = configuration.read(file, True)
+        except configuration.Unread as fault:
+            found = str(fault), fault.status
+        self.compare(f"the module of {file.name}: {text}", found, (text, status))
+
     def is_bounded(self):
         """A file of as many octets as there may be, and of one more."""
         longest = WHOLE.encode() + b"#" * (MOST_OCTETS - len(WHOLE.encode()) - 1) + b"\n"
@@ -178,6 +205,17 @@ class Printing(Trial):
         self.compare("the longest", self.ended(file)[0], 0)
         self.file(longest + b"\n")
         self.compare("one octet more", self.ended(file), (4, b"", f"file: {file}\n".encode()))
+
+
+@contextlib.contextmanager
+def named(program):
+    """While it lasts, the tools find this program."""
+    kept = os.environ[configuration.VARIABLE]
+    os.environ[configuration.VARIABLE] = str(program)
+    try:
+        yield
+    finally:
+        os.environ[configuration.VARIABLE] = kept
 
 
 def printing(program, folder):

@@ -140,11 +140,13 @@ def misplacements(port):
     """Texts of configurations in which a secret stands in a wrong place, each with what the place is, and with the secret."""
     for secret in ("s3cr3t-of-billing", "s3cr3t of b!lling", "S3CR3T.0F.4NY0NE"):
         whole = configuration(f"127.0.0.1:{port}").decode()
-        for name, old in (("listen", f"127.0.0.1:{port}"), ("a client's address", "192.0.2.1"), ("a home server's address", "192.0.2.9:1813")):
+        for name, old in (("listen", f"127.0.0.1:{port}"), ("a client's address", "192.0.2.1"),
+                          ("a home server's address", "192.0.2.9:1813")):
             yield name, whole.replace(f'"{old}"', f'"{secret}"'), secret
         yield "a realm's name", whole.replace("example.org", f"{secret}@"), secret
         yield "a home server's name", whole.replace('name = "h1"', f'name = "{secret}@"'), secret
-        yield "two home servers' name", whole.replace('"h1"', f'"{secret}"') + whole[whole.index("[[home]]"):].replace('"h1"', f'"{secret}"'), secret
+        named = whole.replace('"h1"', f'"{secret}"')
+        yield "two home servers' name", named + named[named.index("[[home]]"):], secret
         yield "two realms' name", whole.replace("example.org", secret) + f'[[realm]]\nname = "{secret.swapcase()}"\nhome = "h1"\n', secret
         yield "a realm's home", whole.replace('home = "h1"', f'home = "{secret}"'), secret
         yield "default_home", f'default_home = "{secret}"\n' + whole, secret

@@ -18,11 +18,12 @@ SECONDS = 60
 INPUT_OCTETS, OUTPUT_OCTETS, SESSION_TIME, INPUT_GIGAWORDS, OUTPUT_GIGAWORDS = 42, 43, 46, 52, 53
 
 # Format characters, such as the marks of a direction, and the separators of lines and paragraphs: of one to four octets in UTF-8.
-FORMATS = "\u00ad\u0600\u061c\u06dd\u180e\u200b\u200e\u200f\u2028\u2029\u202a\u202b\u202c\u202d\u202e\u2060\u2066\u2067\u2068\u2069\ufeff\ufffb\U000110bd\U000e0001\U000e007f"
+FORMATS = ("\u00ad\u0600\u061c\u06dd\u180e\u200b\u200e\u200f\u2028\u2029\u202a\u202b\u202c\u202d\u202e\u2060\u2066\u2067\u2068\u2069"
+           "\ufeff\ufffb\U000110bd\U000e0001\U000e007f")
 # Values that a word can't have as they are, or that look like others: as the user's name and as the session.
 VALUES = [*packets.WORDS, b"-", b"--", b" - ", b"a\tb", b"a\nb", b"a\r\n", b"a\\tb", b"\\N", b"\\", b"%", b"%2d", b"a%09b", b"=\"'", b" ",
           b"\x7f", b"~", "\x80\x9f\xa0".encode(), "m\u00fcller@\u4f8b.org".encode(), b"\xff\t\\%-@\xfe", b"A" * 253, "\u00e9".encode() * 126,
-          *("".join(one).encode() for one in zip("a" * len(FORMATS), FORMATS, "b" * len(FORMATS))), "\u2027\u202f\u2070\u00ac\u00ae".encode()]
+          *(f"a{one}b".encode() for one in FORMATS), "\u2027\u202f\u2070\u00ac\u00ae".encode()]
 
 
 def escaped(octets):
