@@ -914,7 +914,7 @@ def the_owner_has_its_groups(service):
     os.mkfifo(service.run / "commands")
     os.chown(service.run / "commands", owner.pw_uid, STRANGER)
     changed(service, "asking.py", ("    os.umask(0o077)\n", "    print(*sorted(os.getgroups()))\n    return 4\n"))
-    wanted = sorted({*os.getgrouplist(owner.pw_name, STRANGER)})
+    wanted = sorted({*os.getgrouplist(owner.pw_name, owner.pw_gid), STRANGER})
     hope("groups", service.ask("state").stderr.splitlines()[0], " ".join(map(str, wanted)))
 
 

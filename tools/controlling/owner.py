@@ -37,10 +37,11 @@ def identity_of(it):
     import pwd
 
     try:
-        groups = os.getgrouplist(pwd.getpwuid(it.st_uid).pw_name, it.st_gid)
+        owner = pwd.getpwuid(it.st_uid)
+        groups = {*os.getgrouplist(owner.pw_name, owner.pw_gid), it.st_gid}
     except (KeyError, OSError):
-        groups = []
-    kept = f"--groups={','.join(map(str, sorted({*groups, it.st_gid})))}" if groups else "--clear-groups"
+        groups = set()
+    kept = f"--groups={','.join(map(str, sorted(groups)))}" if groups else "--clear-groups"
     return [found("setpriv") or "setpriv", "--reuid", str(it.st_uid), "--regid", str(it.st_gid), kept, "--no-new-privs"]
 
 
