@@ -78,7 +78,7 @@ def no_moment_of_a_stop_leaves_something(stage):
 
 
 def out_is_taken_away_where_the_proxy_stalls(stage):
-    """Where the proxy reads no command any more at the drain, the restart says so and ends with 4; `out` is gone, since it does not drain."""
+    """Where the proxy reads no command any more at the drain, the restart says so and ends with 4; `out` is gone: it does not drain."""
     one = stage.stand_in()
     way, calls = stage.restarting(one)
     asker = stage.begin(one, "restart", "--force", "--out", "2", variables=way)
@@ -142,7 +142,7 @@ def what_is_outstanding_counts_in_the_rate(stage):
 
 
 def nobody_else_keeps_root_from_a_restart(stage):
-    """Whoever may read the configuration and locks it, or what stands in the folder, keeps nobody from a restart; root's lock is its own."""
+    """Whoever locks the configuration, or what stands in the folder, keeps nobody from a restart; root's lock is its own."""
     if os.getuid() != 0:
         raise LeftOut("it wants root")
     one = stage.stand_in(owner=STRANGER)

@@ -72,7 +72,8 @@ def see_service():
 
 def take_lock():
     """Waits for the lock of those who ask, which the end of this process frees."""
-    descriptor, until = os.open("lock", os.O_RDONLY | os.O_CREAT | os.O_CLOEXEC | os.O_NONBLOCK, 0o600), time.monotonic() + bounds.LOCK_SECONDS
+    descriptor = os.open("lock", os.O_RDONLY | os.O_CREAT | os.O_CLOEXEC | os.O_NONBLOCK, 0o600)
+    until = time.monotonic() + bounds.LOCK_SECONDS
     while True:
         try:
             fcntl.flock(descriptor, fcntl.LOCK_EX | fcntl.LOCK_NB)

@@ -80,7 +80,8 @@ class Folder:
     def start(self, words, seconds, variables=None, has_input=False):
         """Has the owner run a command here, for at most so many seconds. What the owner calls itself keeps its environment."""
         environment = BARE | (variables or {}) if self.is_root or variables is None else given_environment() | variables
-        return Process(bounded(seconds, [*self.identity, *words]), environment, self.descriptor, has_input, has_signals=variables is not None)
+        command = bounded(seconds, [*self.identity, *words])
+        return Process(command, environment, self.descriptor, has_input, has_signals=variables is not None)
 
     def start_asking(self, *words, seconds=bounds.ALL_SECONDS, has_input=False):
         """Has the owner run `asking`."""

@@ -73,7 +73,8 @@ class Restart:
         if self.way:
             return
         if not unit:
-            raise Fault(f"what serves in {self.folder} is no unit that is known here: set RAD_PROXY_RESTART to the command that restarts it")
+            raise Fault(f"what serves in {self.folder} is no unit that is known here: set RAD_PROXY_RESTART to the command that restarts "
+                        "it")
         if os.getuid() != 0:
             raise Fault(f"root alone restarts {unit}")
         if not is_active(unit):
@@ -106,6 +107,14 @@ class Restart:
         if down:
             raise Refused(down, "a home server is down")
         return lanes
+
+    def look_again(self):
+        """The same, where the file `out` stands: what keeps it from an answer is a refusal too."""
+        try:
+            self.look_for_down()
+        except Fault as fault:
+            fault.status = bounds.REFUSED
+            raise
 
     def look_ahead(self):
         """Looks twice, a second apart, and refuses where a restart would leave something. Where anything is queued or outstanding in the
@@ -156,7 +165,7 @@ class Restart:
                 if self.call.out:
                     time.sleep(self.call.out)
                     if not self.call.is_forced:
-                        self.look_for_down()
+                        self.look_again()
                 self.drain(out)
             finally:
                 self.stops.wait()
