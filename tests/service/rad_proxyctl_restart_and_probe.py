@@ -637,8 +637,8 @@ def bash_completes_the_words(room):
     }
     for words, wanted in cases.items():
         hope(words, sorted(completed(room, *words.split(" "))), sorted(wanted.split()))
-    for words in ("rad_proxyctl -i $", "rad_proxyctl -i ", "rad_proxyctl check $", "rad_proxyctl metrics $", "rad_proxyctl -d $", "rad_proxyctl $"):
-        completed(room, *words.split(" "))
+    for words in ("-i $", "-i ", "check $", "metrics $", "-d $", "$"):
+        completed(room, *f"rad_proxyctl {words}".split(" "))
     hope("what a name evaluated", list(room.room.glob("**/planted")), [])
     usage = room.ask("--help").stdout.split("\n\n")[0]
     lines = [re.sub(r"\b[A-Z:]+\b", "", line).split("rad_proxyctl", 1)[1] for line in usage.splitlines()]
