@@ -4,3 +4,4 @@ mod Items
 mod LastLines
 mod Lists
 mod Names
+mod Told

@@ -320,8 +320,7 @@ fn show_text(alloc: Global, text: &str) -> Result<Shown, AllocError>
 fn may_tell(text: &[u8]) -> bool
     ensures { result ≡ is_told text.now }
 {
-    text.iter()
-        .all(|octet| octet.is_ascii_digit() || matches!(*octet, b'.' | b':' | b'/'))
+    text.iter().all(|octet| octet.is_ascii_digit() || matches!(*octet, b'.' | b':' | b'/'))
 }
 
 /// Returns the place of a fault's key; or of the header of its table, if the key is absent there.
