@@ -115,7 +115,7 @@ def built(program):
         conclude(0, 0)
     file = pathlib.Path(tempfile.mkdtemp(), "image")
     words = [CONTAINER / "build", file, "bookworm", "--isolation", "chroot"]
-    done = subprocess.run(words, env=os.environ | {"PROGRAM": program, "AUDITOR": program}, capture_output=True, text=True, check=False)
+    done = subprocess.run(words, env=os.environ | dict.fromkeys(("PROGRAM", "AUDITOR", "CONFIG_JSON"), program), capture_output=True, text=True, check=False)
     if done.returncode:
         print(f"failed: {CONTAINER / 'build'}: {done.stdout}{done.stderr}")
         conclude(0, 1)
