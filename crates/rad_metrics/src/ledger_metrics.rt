@@ -104,7 +104,7 @@ pub(crate) fn write_ledger<W: Write>(
     writer: &mut W,
     reading: Option<LedgerReading<'_>>,
 ) -> io::Result<()>
-    ensures { OnOk result (Appends (W.contents writer.old) (W.contents writer.new) (ledger_text reading)) }
+    ensures { OnOk result (Appends (W.contents writer.old) (W.contents writer.new) (ledger_text reading.entry)) }
 {
     let metrics = LedgerMetrics(reading);
     write!(writer, "{metrics}")
