@@ -255,20 +255,20 @@ def three_datagrams_come_soon(room):
     hope("seconds apart", [0.1 < each < 0.5 for each in apart[:2]] + [0.7 < each < 1.4 for each in apart[2:]], 4 * [True])
 
 
-# Sends datagrams that are none to a port, some thousand a second, until it is killed.
+# Sends datagrams that are none to a port, some hundred a second, until it is killed.
 LOAD = """
 import socket, sys, time
 with socket.socket(socket.AF_INET, socket.SOCK_DGRAM) as made:
     made.connect(("127.0.0.1", int(sys.argv[1])))
     while True:
-        for _ in range(20):
+        for _ in range(4):
             made.send(bytes(60))
         time.sleep(0.01)
 """
 
 
 def strangers_do_not_fail_a_check(room):
-    """Beside a stranger who sends some thousand datagrams a second, of ten checks with a second each no two in a row fail."""
+    """Beside a stranger who sends some hundred datagrams a second, of ten checks with a second each no two in a row fail."""
     room.start()
     load = subprocess.Popen([sys.executable, "-c", LOAD, str(room.port)])
     try:

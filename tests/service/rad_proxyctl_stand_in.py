@@ -233,6 +233,13 @@ def no_stop_of_a_trace_leaves_the_file(stage):
     asker.communicate(timeout=PATIENCE)
     until("the file is gone", lambda: names_in(one.folder) == [])
     until("nothing reads the log", lambda: not processes_with(str(log)))
+    silent = f"sleep 60.{os.getpid()}"
+    asker = stage.begin(one, "trace", "--session", "S1", variables={"RAD_PROXY_FOLLOW": silent})
+    until("the file trace", (one.folder / "trace").exists)
+    asker.kill()
+    asker.communicate(timeout=PATIENCE)
+    until("nothing stands for the log", lambda: not processes_with(silent.split()[1]))
+    until("the file is gone", lambda: names_in(one.folder) == [])
     asker, log = traced(stage, one, "--seconds", "40")
     asker.stdout.close()
     for _ in range(2):
