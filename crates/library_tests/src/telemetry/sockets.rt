@@ -65,6 +65,7 @@ const READS: usize = 100;
 const LINES: usize = 200;
 
 /// A system whose table of sockets is this text, so many times.
+#[derive(Clone, Copy)]
 struct Table<'a>(&'a str, usize);
 
 impl SystemFiles for Table<'_> {
