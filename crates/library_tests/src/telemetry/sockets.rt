@@ -58,11 +58,11 @@ const DROPPED: &[[u64; 3]] = &[
 
 /// How many sockets are bound while others are read, how many times those are read, and how often the table that is read has
 /// its line.
-const BOUND: usize = 400;
+const BOUND: usize = 100;
 
-const READS: usize = 100;
+const READS: usize = 20;
 
-const LINES: usize = 200;
+const LINES: usize = 50;
 
 /// A system whose table of sockets is this text, so many times.
 #[derive(Clone, Copy)]
