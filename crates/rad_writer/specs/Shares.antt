@@ -1,5 +1,5 @@
 -- The share of a client (own): how much of the buffer its entries may take once less than half of it is left free.
-use Rattle.std.specs.Prelude.{ℕ, ◌+◌, ◌-◌, ◌*◌, ◌/◌, ◌<◌, ◌⊎◌, max}
+use Rattle.std.specs.Prelude.{ℕ, ◌+◌, ◌-◌, ◌/◌, ◌<◌, ◌⊎◌, max}
 use Rattle.rad_writer.specs.Parcels.{octets_of}
 use Rattle.rad_writer.specs.declared.parcel.ParcelHead.{ParcelHead}
 use Rattle.rad_writer.specs.declared.shares.Taking.{Taking}

@@ -1,6 +1,6 @@
 //! What each client has in the buffer, and how much of the buffer it may take.
 
-ghost use Rattle.std.specs.Prelude.{◌≡◌, ◌↔◌, IsTrue};
+ghost use Rattle.std.specs.Prelude.{◌↔◌, IsTrue};
 ghost use Rattle.rad_writer.specs.Shares.{IsBeyond};
 
 use crate::parcel::{Origin, ParcelHead};
