@@ -2,3 +2,5 @@ mod Adding
 mod Behind
 mod Fine
 mod Members
+mod Names
+mod Secrets
