@@ -35,7 +35,7 @@ no_format c l = grind arith
 pub character_is : (c : ℕ) → is_escaped c ≡ true → escaped (Some 92) (encode_utf8 c) ≡ flat_map octet_text (encode_utf8 c)
 character_is c e = elim (cases_lt c 128) [
   | inl small ↦
-    let plain : is_plain c ≡ false = (let other = no_format c small in grind arith) in
-    rw (encode_ascii c small) (one c plain)
+      let plain : is_plain c ≡ false = (let other = no_format c small in grind arith) in
+      rw (encode_ascii c small) (one c plain)
   | inr great ↦ wide c great
 ]
