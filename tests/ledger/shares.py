@@ -56,7 +56,8 @@ class Flood(Trial):
     def dropped(self, client):
         """How many entries of a client were dropped, by the last text of the counters."""
         until("the counters", self.counters.exists)
-        found = re.search(rf'^rad_proxy_client_ledger_dropped_total{{client="{self.addresses[client]}"}} ([0-9]+)$', self.counters.read_text(), re.MULTILINE)
+        name = f'rad_proxy_client_ledger_dropped_total{{client="{self.addresses[client]}"}}'
+        found = re.search(rf"^{re.escape(name)} ([0-9]+)$", self.counters.read_text(), re.MULTILINE)
         need(found, "it is not counted by client")
         return int(found[1])
 

@@ -10,12 +10,12 @@ import os
 import re
 import time
 
-from tests.lib import (ACCT_SESSION_ID, HERE, PATIENCE, SECRET, USER_NAME, Stage, answer, attribute, best, bound, hope, is_so, need, pairs_of,
-                       reply, request, try_in_folders, turned)
+from tests.lib import (ACCT_SESSION_ID, HERE, PATIENCE, SECRET, USER_NAME, Stage, answer, attribute, best, bound, hope, is_so, need,
+                       pairs_of, reply, request, try_in_folders, turned)
 
 ELSEWHERE = "127.0.0.2"
-# How many requests a second a client sends that is traced, for how many seconds, with how many unanswered at most, so that none is lost; and
-# how many lines are logged in a second at most. A line is seen a moment after it is logged, so less than a second is looked at.
+# How many requests a second a client sends that is traced, for how many seconds, with how many unanswered at most, so that none is
+# lost; and how many lines are logged in a second at most. A line is seen a moment after it is logged, so less than a second is looked at.
 RATE, SECONDS, UNANSWERED, MOST, LOOKED = 1000, 4, 32, 200, 0.8
 # How many lines there are of each request of a client that is answered.
 LINES = 6
