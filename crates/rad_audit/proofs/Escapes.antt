@@ -48,6 +48,6 @@ no_plain_of c false none l e = grind arith
 pub character_is : (c : ℕ) → is_escaped c ≡ true → escaped (Some 92) (encode_utf8 c) ≡ flat_map octet_text (encode_utf8 c)
 character_is c e = elim (cases_lt c 128) [
   | inl small ↦
-    rw (encode_ascii c small) (one c (no_plain_of c (is_format c) (no_format c small) small e))
+      rw (encode_ascii c small) (one c (no_plain_of c (is_format c) (no_format c small) small e))
   | inr great ↦ wide c great
 ]
