@@ -3,9 +3,11 @@
 The secret is that of the [[client]] with the address that this machine sends from. Without an address it asks `listen` of the
 configuration.
 """
+import errno
 import hashlib
 import hmac
 import os
+import random
 import re
 import socket
 import time
@@ -21,6 +23,8 @@ STATUS_SERVER, ACCOUNTING_RESPONSE, MESSAGE_AUTHENTICATOR = 12, 5, 80
 SHORTEST, LONGEST = 20, 4096
 # How many datagrams are sent soon after each other, how many seconds apart, and how many seconds apart those after them are.
 FIRST, SOON, APART = 3, 0.2, 1.0
+# The ports that are tried where Linux has none left, and how many of them.
+OTHER_PORTS, MOST_TRIED = range(1024, 65_536), 300
 PLACE = re.compile(r"((?:\d{1,3}\.){3}\d{1,3}):(\d{1,5})", re.ASCII)
 
 
@@ -90,17 +94,34 @@ def await_answer(made, asked, secret, seconds):
     raise Fault(f"in {seconds:g} seconds{more}", UNANSWERED)
 
 
+def connected(address, port):
+    """A socket to this address and port. Where others hold all the ports that Linux gives, it sends from a random one."""
+    made = socket.socket(socket.AF_INET, socket.SOCK_DGRAM)
+    try:
+        made.connect((address, port))
+        return made
+    except OSError as error:
+        if error.errno not in (errno.EAGAIN, errno.EADDRINUSE):
+            made.close()
+            raise Fault(f"cannot send to {address}:{port}: {error.strerror}", bounds.FAILED) from None
+    for own in random.sample(OTHER_PORTS, MOST_TRIED):
+        try:
+            made.bind(("0.0.0.0", own))
+            made.connect((address, port))
+            return made
+        except OSError:
+            continue
+    made.close()
+    raise Fault(f"cannot send to {address}:{port}: others hold the ports of this machine", bounds.FAILED)
+
+
 def probe(path, server, seconds):
     """Asks, and prints how long it took."""
     table = tables_of(path)
-    address, port = place_of(server, server) if server else place_of(table.get("listen"), f"{path}: listen")
+    address, port = place_of(server, server) if server else place_of(table["listen"], f"{path}: listen")
     if not server and address == "0.0.0.0":
         address = "127.0.0.1"
-    with socket.socket(socket.AF_INET, socket.SOCK_DGRAM) as made:
-        try:
-            made.connect((address, port))
-        except OSError as error:
-            raise Fault(f"cannot send to {address}:{port}: {error.strerror}", bounds.FAILED) from None
+    with connected(address, port) as made:
         secret = secret_of(table, path, made.getsockname()[0])
         authenticator = os.urandom(17)
         asked = status_server(authenticator[0], authenticator[1:], secret)
