@@ -332,6 +332,18 @@ def test_refused_values(program, folder):
         hope("what it tells without a log", trial.fails(level="off", RAD_PROXY_SOURCE_PORTS="a"), ["socket: lane 0"])
 
 
+def test_a_probe_finds_a_port(program, folder):
+    """Where others hold all ports of Linux's range `rad_proxyctl probe` sends from another one, as a health check does."""
+    set_range()
+    place = pathlib.Path(folder, "usr")
+    subprocess.run(["make", "-s", "install-proxy", f"PREFIX={place}", f"SYSCONFDIR={folder}/etc", f"PROGRAM={program}"], cwd=TOP, check=True)
+    with Trial(program, folder) as trial:
+        own = trial.begin()
+        with held([port for port in range(FIRST, LAST + 1) if port not in own]):
+            ran = subprocess.run([place / "sbin/rad_proxyctl", "probe", "-c", trial.file, "--timeout", "2"], capture_output=True, text=True, check=False)
+        hope(f"its status: {ran.stderr}", (ran.returncode, ran.stdout.partition(" in ")[0]), (0, f"answer from {HERE}:{PORT}"))
+
+
 def test_order_of_faults(program, folder):
     """The socket of `listen` is bound before the value is looked at."""
     set_range()
