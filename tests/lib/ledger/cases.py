@@ -382,8 +382,8 @@ def runs():
     named = Run(NAME, [Lane(0, "h\n1", HOME)])
     for at, mark in enumerate(("\u061c", "\u200e", "\u200f", "\u202a", "\u202e", "\u2066", "\u2069", "\u2028", "\ufeff", "\U000e0001")):
         escaped = "".join(f"%{octet:02x}" for octet in mark.encode())
-        turned = Run(NAME, [Lane(0, f"h{mark}1", HOME)])
-        yield f"a-name-with-a-mark-{at}", {"ledger": text(lines_of(turned, 1))}, [counted(0, f"h{escaped}1", 0, 1, "part", 1)], 7
+        turns = Run(NAME, [Lane(0, f"h{mark}1", HOME)])
+        yield f"a-name-with-a-mark-{at}", {"ledger": text(lines_of(turns, 1))}, [counted(0, f"h{escaped}1", 0, 1, "part", 1)], 7
     yield "a-name-with-a-line-end", {"ledger": text(lines_of(named, 1))}, [counted(0, "h%0a1", 0, 1, "part", 1)], 7
     end = changed(lines[-1], run="0" * 16)
     yield "an-end-of-no-run", {"ledger": text([*lines[:-1], end])}, ["ledger:5: UnknownLane", counted(0, "h1", 0, 3, "open")], 5
