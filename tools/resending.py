@@ -7,7 +7,7 @@ from datetime import datetime, timezone
 
 from trial import radius
 from trial.faults import Fault, shown_path, told_by
-from trial.settings import ADDRESS, HOME_NAME
+from trial.settings import ADDRESS
 
 MOST_OF_A_LINE = 65_536
 DELAY_TIME, VENDOR_SPECIFIC = radius.DELAY_TIME, 26
@@ -18,6 +18,7 @@ STATES = [QUEUED, OUTSTANDING, UNTAKEN]
 ENCRYPTED = {2, 3, 69, 80, 214, 215}
 MOST_OF_NAS_FILTER_RULE = 252
 MOST_DELAY = 2**32 - 1
+HOME_NAME = re.compile(r"[A-Za-z0-9._-]{1,64}", re.ASCII)
 TIME = re.compile(r"(\d{4}-\d\d-\d\dT\d\d:\d\d:\d\d)(\.\d+)?Z", re.ASCII)
 
 
