@@ -17,8 +17,9 @@ MORE = b"".join(attribute(CLASS, bytes(250)) for _ in range(14))
 QUIET, AT_ONCE = 300, 100
 # How many records may be sent until the buffer is as full as those that flood may make it.
 MOST = 20_000
-# How many milliseconds a sync takes, how many entries then wait for three of them and more, and how old one is then at least, in seconds.
-SLOW, WAITING, OLD = 2000, 1000, 4.0
+# How many milliseconds a sync takes; in how many rounds, a tenth of a second apart, how many entries each come meanwhile; and how old one is
+# then at least, in seconds.
+SLOW, ROUNDS, WAITING, OLD = 2000, 80, 20, 0.8
 
 
 class Flood(Trial):
@@ -130,14 +131,13 @@ def one_of_many_floods_up_to_half(trial):
 def the_oldest_entry_has_its_age(trial):
     """While a sync takes two seconds, entries wait, and the age of the oldest one is told, also of those that no line is made of yet."""
     trial.begin(LD_PRELOAD=built(trial.room, "slow_files"), SLOW_PATH=str(trial.folder), SLOW_SYNC=str(SLOW))
-    hope("acknowledged", trial.ask(WAITING), WAITING)
-    ages, last = [], time.monotonic() + 60
-    while trial.number("ledger_written_total") < WAITING:
-        need(time.monotonic() < last, "it is not written", ages)
+    ages = []
+    for _ in range(ROUNDS):
+        hope("acknowledged", trial.ask(WAITING), WAITING)
+        time.sleep(0.1)
         ages.append(trial.number("ledger_oldest_waiting_seconds"))
-        time.sleep(0.2)
     need(max(ages) > OLD, "the greatest age is", max(ages))
-    need(sum(age == 0 for age in ages) <= len(ages) // 4, "none has an age too often", ages)
+    need(sum(age > OLD for age in ages) >= ROUNDS // 8, "few have an age", ages)
     until("none waits", lambda: trial.number("ledger_oldest_waiting_seconds") == 0)
     trial.ends(seconds=10)
     trial.is_all_there()
