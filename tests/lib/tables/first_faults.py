@@ -28,7 +28,7 @@ def whole_texts():
 def tops():
     rows = [
         ("", None),
-        ("ports = 7", None, unread("top ports at line 2, column 1")),
+        ("ports = 7", None, unread("top a key at line 2, column 1")),
         ("linger = 600000", None),
         ("linger = 600001", "OutOfRange at top linger"),
         ("linger = -1", "OutOfRange at top linger"),
