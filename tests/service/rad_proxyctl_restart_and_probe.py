@@ -247,12 +247,14 @@ def three_datagrams_come_soon(room):
         hope("the first two are lost", (status, said, len(came)), (0, "answer from PLACE in TIME\n", 3))
         return moments[2] - moments[0]
 
+    def unanswered():
+        moments.clear()
+        status, _, came = probed(room, lambda octets, count: moments.append(time.monotonic()) or [], "2.7")
+        apart = [round(after - before, 1) for before, after in zip(moments, moments[1:])]
+        return status, len(came), [0.1 < each < 0.5 for each in apart[:2]] + [0.7 < each < 1.4 for each in apart[2:]]
+
     best(tried, lambda seconds: 0.3 < seconds < 0.6)
-    moments.clear()
-    status, _, came = probed(room, lambda octets, count: moments.append(time.monotonic()) or [], "2.7")
-    hope("without an answer", (status, len(came)), (1, 5))
-    apart = [round(after - before, 1) for before, after in zip(moments, moments[1:])]
-    hope("seconds apart", [0.1 < each < 0.5 for each in apart[:2]] + [0.7 < each < 1.4 for each in apart[2:]], 4 * [True])
+    best(unanswered, lambda found: found == (1, 5, 4 * [True]))
 
 
 # Sends datagrams that are none to a port, some hundred a second, until it is killed.
@@ -334,7 +336,7 @@ def probe_says_what_is_wrong_here(room):
         done = room.ask("probe", *words, **options)
         return done.returncode, done.stdout, done.stderr.replace(str(other), "FILE")
 
-    hope("no file", said("-c", other), (2, "", "rad_proxyctl: file: FILE\n"))
+    hope("no file", said("-c", other), (2, "", "rad_proxyctl: file: FILE: No such file or directory\n"))
     whole = room.file.read_text()
     for text, told in (("listen = ", "configuration: Toml"), ("\xff", "configuration: Toml"), ("#" * 1_048_577, "file: FILE"),
                        (f'listen = "{HERE}"\n', "configuration: BadAddress at top listen"), (f'listen = "{HERE}:9"\n', "configuration: Missing at top client"),

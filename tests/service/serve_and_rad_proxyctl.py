@@ -882,7 +882,7 @@ def the_owner_gets_nothing_of_roots(service):
                              stderr=subprocess.DEVNULL, pass_fds=[file])
     try:
         pid = until("somebody asks", lambda: [path.parent for path in pathlib.Path("/proc").glob("[0-9]*/cmdline")
-                                              if is_of_a_stranger_who_asks(path)])[0]
+                                              if is_of_a_stranger_who_asks(path, service.room)])[0]
         until("it waits for the answer", lambda: (service.run / "answer").exists())
         own = {"answer", "lock", "commands"}
         opened = {int(link.name): os.readlink(link) for link in pid.glob("fd/*")}
@@ -918,10 +918,11 @@ def the_owner_has_its_groups(service):
     hope("groups", service.ask("state").stderr.splitlines()[0], " ".join(map(str, wanted)))
 
 
-def is_of_a_stranger_who_asks(path):
-    """Whether this command line in /proc is that of a process of STRANGER's that asks."""
+def is_of_a_stranger_who_asks(path, room):
+    """Whether this command line in /proc is that of a process of STRANGER's that asks, by what is installed in this room."""
     with contextlib.suppress(OSError):
-        return path.stat().st_uid == STRANGER and b"asking.py" in path.read_bytes() and b"setpriv" not in path.read_bytes()
+        line = path.read_bytes()
+        return path.stat().st_uid == STRANGER and all(part in line for part in (b"asking.py", os.fsencode(room))) and b"setpriv" not in line
     return False
 
 
