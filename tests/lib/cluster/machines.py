@@ -200,7 +200,7 @@ class Site:
 
     def __init__(self, program, folder):
         self.folder, self.installed, self.machines = folder, folder / "installed", []
-        programs = [f"{name}={program}" for name in ("PROGRAM", "AUDITOR", "CONFIG_JSON")]
+        programs = [f"{name}={program}" for name in ("PROGRAM", "AUDITOR")]
         run("make", "-s", "install-proxy", f"DESTDIR={self.installed}", "PREFIX=/usr", *programs, cwd=TOP)
         (self.installed / "usr/bin/systemctl").write_text(SYSTEMCTL)
         (self.installed / "usr/bin/systemctl").chmod(0o755)
