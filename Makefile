@@ -22,7 +22,7 @@ SEED ?= 1
 SEEDS ?= 1000
 FIRST ?= 1
 
-.PHONY: help build run serve replay test edits simulate growths spoiled soak cluster bench figures bench-queue
+.PHONY: help build run serve replay test edits scripts definitions simulate growths spoiled soak cluster bench figures bench-queue
 
 # What `make` alone does: the line above each target that is called by hand.
 help:
@@ -73,6 +73,14 @@ test:
 #: edits       more edits that the prover has to refuse; CRATES="rad_lane" names crates
 edits:
 	@$(TESTS).gate.edits $(if $(ALONE),--alone) $(CRATES)
+
+#: scripts     lists the scripts of tests/, with what each does
+scripts:
+	@$(TESTS).gate.pages
+
+#: definitions lists the files of definitions that public contracts cite, with what each defines
+definitions:
+	@$(TESTS).gate.docs --definitions
 
 # The simulation of the whole proxy, run with so many seeds. Where the gate did not leave it, it is proved and built first.
 #: simulate    the simulation of the whole proxy, by SEEDS seeds from FIRST on

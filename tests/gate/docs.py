@@ -1,11 +1,11 @@
-"""Checks the links, paths and figures of the pages, the list of definitions of docs/map.md, the libraries of crates.txt, and versions.
+"""Checks the links, paths and figures of the pages, the libraries of crates.txt, and versions; or prints the list of definitions.
 
-usage: python3 -m tests.gate.docs --check    what is wrong, a line for each; the last line is `N passed, M failed`, of links, paths,
+usage: python3 -m tests.gate.docs --check          what is wrong, a line for each; the last line is `N passed, M failed`, of links, paths,
        stretches, libraries and versions
-       python3 -m tests.gate.docs --write    writes the stretches of the pages that are made from other files
+       python3 -m tests.gate.docs --write          writes the stretches of the pages that are made from the tables of docs/performance.md
+       python3 -m tests.gate.docs --definitions    prints what each file of definitions defines, by its first comment
 
-A stretch stands between `<!-- NAME: begin -->` and `<!-- NAME: end -->`. `definitions` is made from the first comment of each file of
-crates/*/specs, and the others from the tables that `make figures` puts into docs/performance.md.
+A stretch stands between `<!-- NAME: begin -->` and `<!-- NAME: end -->`.
 """
 import functools
 import re
@@ -127,8 +127,8 @@ def lost_pages(text):
 
 
 def cited():
-    """The names in type face of the README and of docs/map.md, but for its list of definitions."""
-    text = "\n".join(STRETCH.sub("", (TOP / name).read_text("utf-8")) for name in ("README.md", "docs/map.md"))
+    """The names in type face of the README and of docs/map.md."""
+    text = "\n".join((TOP / name).read_text("utf-8") for name in ("README.md", "docs/map.md"))
     return set(re.findall(r"`([A-Za-z_]\w+)`", text))
 
 
@@ -142,8 +142,8 @@ def first_comment(text):
     return " ".join(lines)
 
 
-def definition_row(path, names):
-    """The row of a file of definitions: what its first comment says it defines, the names that pages cite, and its sources."""
+def definition_line(path, names):
+    """The line of a file of definitions: what its first comment says it defines, the names that pages cite, and its sources."""
     text = path.read_text("utf-8")
     comment = first_comment(text)
     sources = list(dict.fromkeys(re.findall(r"RFC \d+(?: section [\d.]*\d)?", comment)))
@@ -154,18 +154,18 @@ def definition_row(path, names):
     if len(sentence) > 60 and ": " in sentence:
         sentence = sentence.split(": ")[0]
     defined = re.findall(r"^(?:(?:abbrev|unfoldable|pub|record|data) )+([A-Za-z_]\w*)", text, re.MULTILINE)
-    shown = ", ".join(f"`{name}`" for name in dict.fromkeys(defined) if name in names)
+    shown = ", ".join(name for name in dict.fromkeys(defined) if name in names)
     what = sentence if re.match(r"[\w-]+[A-Z]", sentence) else sentence[:1].lower() + sentence[1:]
     sources = [source for source in sources if source not in what]
     what += f" ({', '.join(sources)})" if sources else ""
-    return f"`{path.relative_to(TOP / 'crates')}` | {what}{': ' + shown if shown else ''}"
+    return f"{path.relative_to(TOP / 'crates')}: {what}{': ' + shown if shown else ''}"
 
 
 def definitions():
     """The list of all files of definitions that a public contract may cite."""
     names = cited()
     paths = [path for path in sorted(TOP.glob("crates/*/specs/*.antt")) if path.stem not in ("Lib", "internal")]
-    return "\n".join(["file | what it defines", "---|---"] + [definition_row(path, names) for path in paths])
+    return [definition_line(path, names) for path in paths]
 
 
 def table(name):
@@ -197,7 +197,7 @@ def beside_others():
             f"slowest answer in a thousand took {slowest} times as long")
 
 
-MADE_STRETCHES = {"definitions": lambda: f"\n{definitions()}\n", "beside": beside_others}
+MADE_STRETCHES = {"beside": beside_others}
 
 
 def with_stretches(text):
@@ -262,6 +262,8 @@ def main():
         write()
     elif sys.argv[1:] == ["--check"]:
         sys.exit(0 if check() else 1)
+    elif sys.argv[1:] == ["--definitions"]:
+        print(*definitions(), sep="\n")
     else:
         sys.exit(__doc__)
 

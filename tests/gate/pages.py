@@ -1,7 +1,7 @@
-"""Writes the list of the scripts in docs/working.md, by the first line of each; of what they share it has the folders alone.
+"""Prints the list of the scripts, by the first line of each; of what they share it has the folders alone.
 
-usage: python3 -m tests.gate.pages            writes it, between its two marks
-       python3 -m tests.gate.pages --check    compares it, and looks that the gate runs each script of the other folders
+usage: python3 -m tests.gate.pages            prints it
+       python3 -m tests.gate.pages --check    looks that each script says what it does, and that the gate runs it
 
 What a script says of itself is the first line of its docstring, or of the comment that it begins with; the words that it is called
 with are those of its first line of usage, without those in brackets. The last line of --check is `N passed, M failed`.
@@ -9,11 +9,10 @@ with are those of its first line of usage, without those in brackets. The last l
 import re
 import sys
 
-from tests.lib import TOP, conclude, rows
+from tests.lib import TOP, conclude
 from tests.gate.scripts import SCRIPTS
 
-PAGE, TESTS = TOP / "docs" / "working.md", TOP / "tests"
-BEGIN, END = "<!-- scripts: begin -->\n", "<!-- scripts: end -->\n"
+TESTS = TOP / "tests"
 FOLDERS = {
     "gate": "the gate, and what else is run of the repository itself",
     "models": "second implementations, and the program beside them",
@@ -85,10 +84,6 @@ def is_whole(line):
 
 def faults():
     """What is not as it should be, of all that is looked at."""
-    page = PAGE.read_text("utf-8")
-    found = page.partition(BEGIN)[2].partition(END)[0]
-    if found != text():
-        yield "\n".join([f"{PAGE}: the list is not what the scripts say:", *rows.difference(text().encode(), found.encode())])
     folders = {file.parent.relative_to(TESTS).as_posix() for file in TESTS.glob("*/**/*.py")} | {"packaging", "preload"}
     yield from (f"tests/{name}: the list has no such folder" for name in folders - FOLDERS.keys())
     for folder in FOLDERS:
@@ -105,15 +100,12 @@ def faults():
 def main():
     if sys.argv[1:] not in ([], ["--check"]):
         sys.exit(__doc__)
-    if sys.argv[1:]:
-        told = list(faults())
-        print(*told, sep="\n", end="\n" if told else "")
-        conclude(int(not told), len(told))
-    before, begin, rest = PAGE.read_text("utf-8").partition(BEGIN)
-    _, end, after = rest.partition(END)
-    if not begin or not end:
-        sys.exit(f"{PAGE} has no two marks")
-    PAGE.write_text(before + begin + text() + end + after, "utf-8")
+    if not sys.argv[1:]:
+        print(text())
+        return
+    told = list(faults())
+    print(*told, sep="\n", end="\n" if told else "")
+    conclude(int(not told), len(told))
 
 
 if __name__ == "__main__":
