@@ -9,5 +9,6 @@ from tests.lib.packets import (A_CLASS, ACCOUNTING_REQUEST, ACCOUNTING_RESPONSE,
                                request_of_nas, signed, states_of, status, turned, user_name)
 from tests.lib.proxies import NEW_LANE, NOTHING_LEFT, SECRET, Home, Nas, Proxy, Service, Stage, heed_signals, pairs_of
 from tests.lib.starting import MOST_ALLOCATIONS, NOBODY, TOP, Refuser, Server, built, configuration, configured, environment, started
-from tests.lib.trying import TRIES, LeftOut, Trial, best, conclude, hope, is_asked, need, run_trial, try_each, try_in_folders, try_named
+from tests.lib.trying import (TRIES, LeftOut, Trial, best, conclude, hope, is_asked, need, run_trial, try_each, try_in_folders,
+                              try_in_namespace, try_named)
 from tests.lib.waiting import BUFFERS, HERE, PATIENCE, awaited, bound, buffers_of, flooded, free_port, free_ports, is_so, until

@@ -1,5 +1,8 @@
 """What runs the tests of a script and counts them: tests that are functions, and trials that look at one thing after the other."""
+import os
 import pathlib
+import shutil
+import subprocess
 import sys
 import tempfile
 import traceback
@@ -112,6 +115,26 @@ def try_in_folders(tests, usage):
             test(program, pathlib.Path(folder))
 
     try_each(tests, lambda test: fault_of(in_a_folder, test))
+
+
+def try_in_namespace(tests, try_one, usage, module, prepare=lambda: None):
+    """Tries the tests that are named, or all, in a network namespace of its own, where `prepare` is called first. `try_one` is given the name
+    of a test and the program, and answers whether it passed. Ends the script, which calls itself by its module."""
+    if len(sys.argv) < 2:
+        sys.exit(usage)
+    if sys.argv[1] == "--inside":
+        # The files are such that the other users of a test may read them.
+        os.umask(0o022)
+        subprocess.run(["ip", "link", "set", "lo", "up"], check=True)
+        prepare()
+        passed = [try_one(name, sys.argv[2]) for name in sys.argv[3:] or tests]
+        conclude(sum(passed), len(passed) - sum(passed))
+    if os.geteuid() or not shutil.which("ip") or not shutil.which("setpriv") or subprocess.run(["unshare", "--net", "--mount", "true"]).returncode:
+        print("left out: it wants root, `ip`, `setpriv` and `unshare`")
+        conclude(0, 0)
+    program, names = str(pathlib.Path(sys.argv[1]).resolve()), sys.argv[2:]
+    words = ["unshare", "--net", "--mount", sys.executable, "-m", module, "--inside", program, *names]
+    sys.exit(subprocess.run(words).returncode)
 
 
 class Trial:

@@ -16,12 +16,11 @@ import shutil
 import socket
 import struct
 import subprocess
-import sys
 import tempfile
 import time
 
-from tests.lib import (BUFFERS, HOME_SECRET, NAS_SECRET, TOP, Proxy, Server, answer, bound, buffers_of, built, conclude, configured,
-                       environment, flooded, hope, read, reply, request, until, user_name)
+from tests.lib import (BUFFERS, HOME_SECRET, NAS_SECRET, Proxy, Server, answer, bound, buffers_of, built, configured, environment, flooded,
+                       hope, read, reply, request, try_in_namespace, until, user_name)
 
 PORT, HOME_PORT = 1813, 2813
 SERVED = ["127.0.0.1", "127.0.0.5", "10.77.0.1", "10.77.0.2"]
@@ -480,26 +479,8 @@ def try_one(name, program):
     return True
 
 
-def inside(program, names):
-    """The tests, in the namespace. The files are such that the users of the program and of the thief may read them."""
-    os.umask(0o022)
-    ip("link", "set", "lo", "up")
-    add(*SERVED[1:], *NASES)
-    passed = [try_one(name, program) for name in names or TESTS]
-    conclude(sum(passed), len(passed) - sum(passed))
-
-
 def main():
-    if len(sys.argv) < 2:
-        sys.exit(__doc__)
-    if sys.argv[1] == "--inside":
-        inside(sys.argv[2], sys.argv[3:])
-    program, names = str(pathlib.Path(sys.argv[1]).resolve()), sys.argv[2:]
-    if os.geteuid() or not shutil.which("ip") or not shutil.which("setpriv") or subprocess.run(["unshare", "--net", "--mount", "true"]).returncode:
-        print("left out: it wants root, `ip`, `setpriv` and `unshare`")
-        conclude(0, 0)
-    words = ["unshare", "--net", sys.executable, "-m", __spec__.name, "--inside", program, *names]
-    sys.exit(subprocess.run(words, cwd=TOP).returncode)
+    try_in_namespace(TESTS, try_one, __doc__, __spec__.name, lambda: add(*SERVED[1:], *NASES))
 
 
 if __name__ == "__main__":

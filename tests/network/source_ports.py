@@ -10,14 +10,11 @@ import contextlib
 import os
 import pathlib
 import re
-import shutil
-import socket
 import subprocess
-import sys
 import tempfile
 
-from tests.lib import (HERE, PATIENCE, SECRET, TOP, Home, Proxy, Server, answer, bound, conclude, configured, environment, hope, need,
-                       request, until, user_name)
+from tests.lib import (HERE, PATIENCE, SECRET, TOP, Home, Proxy, Server, answer, bound, configured, environment, hope, need, request,
+                       try_in_namespace, until, user_name)
 from tests.lib.trying import fault_of
 
 PORT = 1813
@@ -364,25 +361,8 @@ def try_one(name, program):
     return not fault
 
 
-def inside(program, names):
-    """The tests, in the namespace."""
-    os.umask(0o022)
-    subprocess.run(["ip", "link", "set", "lo", "up"], check=True)
-    passed = [try_one(name, program) for name in names or TESTS]
-    conclude(sum(passed), len(passed) - sum(passed))
-
-
 def main():
-    if len(sys.argv) < 2:
-        sys.exit(__doc__)
-    if sys.argv[1] == "--inside":
-        inside(sys.argv[2], sys.argv[3:])
-    program, names = str(pathlib.Path(sys.argv[1]).resolve()), sys.argv[2:]
-    if os.geteuid() or not shutil.which("ip") or not shutil.which("setpriv") or subprocess.run(["unshare", "--net", "--mount", "true"]).returncode:
-        print("left out: it wants root, `ip`, `setpriv` and `unshare`")
-        conclude(0, 0)
-    words = ["unshare", "--net", "--mount", sys.executable, "-m", __spec__.name, "--inside", program, *names]
-    sys.exit(subprocess.run(words, cwd=TOP).returncode)
+    try_in_namespace(TESTS, try_one, __doc__, __spec__.name)
 
 
 if __name__ == "__main__":
