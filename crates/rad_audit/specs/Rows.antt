@@ -2,13 +2,14 @@
 use Rattle.std.specs.Prelude.{ℕ, List, [], ◌∷◌, ◌++◌, codes, Some, None, option_copied}
 use Rattle.std.specs.Fmt.{decimal}
 use Rattle.rad_packet.specs.Packet.{identifier_of}
+use Rattle.rad_config.specs.Printed.{address_text}
 use Rattle.rad_config.specs.Realm.{realm_of_packet}
 use Rattle.rad_lane.specs.Session.{session_id}
 use Rattle.rad_ledger.specs.declared.entry.Entry.{Entry}
 use Rattle.rad_ledger.specs.declared.left.Left.{Left as TheLeft}
 use Rattle.ledger_lines.specs.Lines.{state_text}
 use Rattle.rad_audit.specs.Printed.{run_text}
-use Rattle.rad_audit.specs.Cells.{client_cell, value_cell, number_cell}
+use Rattle.rad_audit.specs.Cells.{value_cell, number_cell}
 use Rattle.rad_audit.specs.Facts.{number_at, octets_at, value_at}
 use Rattle.rad_audit.specs.declared.facts.Facts.{Facts}
 use Rattle.rad_audit.specs.declared.printing.Place.{Place}
@@ -31,7 +32,7 @@ place_words place = value_cell (Some place.file.now) ∷ decimal place.line ∷ 
 abbrev pub name_of : Entry → List (List ℕ)
 name_of e =
     run_text e.run ∷ decimal e.lane ∷ decimal e.serial ∷ decimal e.number ∷ value_cell (Some e.time.now)
-    ∷ client_cell e.client ∷ decimal e.port ∷ []
+    ∷ address_text e.client ∷ decimal e.port ∷ []
 
 -- What the packets of an entry say: the Identifier of the request, which the response has, the home server under whose secret they are
 -- judged, the realm, the session, the user, the status, the octets received from the port and sent to it, and the seconds.
@@ -49,7 +50,7 @@ row_of place e = place_words place ++ name_of e ++ facts_of e ++ codes "answered
 abbrev pub name_of_left : TheLeft → List (List ℕ)
 name_of_left l =
     run_text l.run ∷ decimal l.lane ∷ number_cell None ∷ decimal l.number ∷ value_cell (Some l.time.now)
-    ∷ client_cell l.client ∷ decimal l.port ∷ []
+    ∷ address_text l.client ∷ decimal l.port ∷ []
 
 abbrev pub facts_of_left : TheLeft → List (List ℕ)
 facts_of_left l =
@@ -64,7 +65,7 @@ row_of_left place l = place_words place ++ name_of_left l ++ facts_of_left l ++ 
 abbrev pub name_words : RecordName → List (List ℕ)
 name_words r =
     run_text r.run ∷ decimal r.lane ∷ number_cell r.serial ∷ decimal r.number ∷ value_cell (Some r.time.now)
-    ∷ client_cell r.client ∷ decimal r.port ∷ []
+    ∷ address_text r.client ∷ decimal r.port ∷ []
 
 abbrev pub facts_words : Facts → List (List ℕ)
 facts_words f =

@@ -118,7 +118,6 @@ fn octets_at(packet: &PacketRef<'_>, gigawords: u8, octets: u8) -> Option<u64>
     }
 }
 
-/// Returns the same number, in more octets.
 fn widened(number: Option<u32>) -> Option<u64>
     ensures { result ≡ number }
 {
@@ -128,7 +127,6 @@ fn widened(number: Option<u32>) -> Option<u64>
     }
 }
 
-/// Returns 2^32 times a number of gigawords, and a number of octets.
 fn with_gigawords(gigawords: u32, octets: u32) -> u64
     ensures { result ≡ 2 ^ 32 * gigawords + octets }
 {

@@ -4,10 +4,11 @@ ghost use Rattle.std.specs.Prelude.{◌≡◌, MatchOption};
 ghost use Rattle.rad_packet.specs.Packet.{IsPacketText};
 ghost use Rattle.rad_audit.specs.Rows.{row_of, row_of_left, name_of, name_of_left, name_words, words_of};
 
-use crate::cells::{Cell, ClientCell, NumberCell};
+use crate::cells::{Cell, NumberCell};
 use crate::facts::Facts;
 use crate::printing::Place;
 use rad_ledger::{Entry, Left, LeftState, whole_packet};
+use rad_realms::AddressText;
 use std::fmt;
 
 /// What became of a record.
@@ -38,10 +39,6 @@ pub struct RecordName<'a> {
     pub port: u16,
 }
 
-/// The name of a run, as sixteen hexadecimal digits.
-#[derive(Clone, Copy)]
-pub struct RunText(pub u64);
-
 /// The row of a record.
 #[derive(Clone, Copy)]
 pub struct Row<'a> {
@@ -65,9 +62,7 @@ impl<'a> Row<'a> {
             state: State::Answered,
         })
     }
-}
 
-impl<'a> Row<'a> {
     /// Returns the row of a request that was left, if its packet is one.
     pub fn of_left(place: Place<'a>, left: &Left<'a>) -> Option<Row<'a>>
         ensures { MatchOption result (¬ IsPacketText left.now.request.now) (λ row. words_of row ≡ row_of_left place.entry left.now) }
@@ -83,7 +78,6 @@ impl<'a> Row<'a> {
 }
 
 impl<'a> RecordName<'a> {
-    /// Returns what the line of a request that was left says of it.
     fn of_left(left: &Left<'a>) -> RecordName<'a>
         ensures { name_words result ≡ name_of_left left.now }
     {
@@ -98,7 +92,6 @@ impl<'a> RecordName<'a> {
         }
     }
 
-    /// Returns what an entry's line says of its record.
     fn of_entry(entry: &Entry<'a>) -> RecordName<'a>
         ensures { name_words result ≡ name_of entry.now }
     {
@@ -137,29 +130,17 @@ impl fmt::Display for RecordName<'_> {
     ghost output = { λ name. Some (with_tabs (name_words name)) };
 
     fn fmt<W: fmt::Write>(&self, f: &mut fmt::Formatter<W>) -> fmt::Result {
-        let run = RunText(self.run);
+        let run = self.run;
         let lane = self.lane;
         let serial = NumberCell(self.serial);
         let number = self.number;
         let time = Cell(Some(self.time.as_bytes()));
-        let client = ClientCell(self.client);
+        let client = AddressText(self.client);
         let port = self.port;
         write!(
             f,
-            "{run}\t{lane}\t{serial}\t{number}\t{time}\t{client}\t{port}"
+            "{run:016x}\t{lane}\t{serial}\t{number}\t{time}\t{client}\t{port}"
         )
-    }
-}
-
-impl fmt::Display for RunText {
-    ghost use Rattle.std.specs.Prelude.{Some};
-    ghost use Rattle.rad_audit.specs.Printed.{run_text};
-
-    ghost output = { λ run. Some (run_text run.0) };
-
-    fn fmt<W: fmt::Write>(&self, f: &mut fmt::Formatter<W>) -> fmt::Result {
-        let run = self.0;
-        write!(f, "{run:016x}")
     }
 }
 

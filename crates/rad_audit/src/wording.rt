@@ -61,7 +61,6 @@ pub fn are_words_of(packet: &[u8], words: LineWords<'_>) -> bool
         && words.status == number_at(&packet, ACCT_STATUS_TYPE)
 }
 
-/// Whether two words are the same, or both are none.
 fn is_same(word: Option<&[u8]>, other: Option<&[u8]>) -> bool
     ensures { IsTrue result ↔ (option_copied word.entry ≡ option_copied other.entry) }
 {
