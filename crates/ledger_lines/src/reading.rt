@@ -10,9 +10,10 @@ ghost use Rattle.ledger_lines.specs.declared.begin.FileBefore.{FileBefore as The
 ghost use Rattle.ledger_lines.specs.declared.begin.Hidden.{Hidden as TheHidden};
 ghost use Rattle.rad_ledger.specs.declared.entry.Entry.{Entry as TheEntry};
 ghost use Rattle.rad_ledger.specs.declared.left.Left.{Left as TheLeft};
+ghost use Rattle.rad_ledger.specs.declared.line_request.LineRequest.{LineRequest as TheRequest};
 ghost use Rattle.ledger_lines.specs.declared.faults.LineFault.TheVariants.{OutOfMemory};
 ghost use Rattle.ledger_lines.specs.declared.reading.Line.{Line as TheLine};
-ghost use Rattle.ledger_lines.specs.Lines.{AreEach, Denies, HasLanes, HasText, IsBegin, IsEnd, IsEntry, IsFileBefore, IsHidden, IsLaneCount, IsLaneStart, IsLeft, IsLine, IsLineOf, MayHaveFile};
+ghost use Rattle.ledger_lines.specs.Lines.{AreEach, Denies, HasLanes, HasText, IsAbout, IsBegin, IsEnd, IsEntry, IsFileBefore, IsHidden, IsLaneCount, IsLaneStart, IsLeft, IsLine, IsLineOf, MayHaveFile};
 
 use crate::begin::{Begin, End, FileBefore, Hidden, LaneCount, LaneStart};
 use crate::faults::LineFault;
@@ -22,7 +23,7 @@ use crate::values::{
     time_at, time_if_any_at, words_at,
 };
 use json::{Scratch, Value};
-use rad_ledger::{Entry, Left};
+use rad_ledger::{Entry, Left, LineRequest};
 use std::alloc::{AllocError, Global};
 
 /// The most octets of a line.
@@ -51,13 +52,18 @@ pub struct Room {
 /// Where the octets go that a line has as digits.
 #[derive(Drop)]
 struct Octets {
+    words: Words,
     sent: Vec<u8>,
     reply: Vec<u8>,
     response: Vec<u8>,
+    request: Vec<u8>,
+}
+
+#[derive(Drop)]
+struct Words {
     realm: Vec<u8>,
     session: Vec<u8>,
     user: Vec<u8>,
-    request: Vec<u8>,
 }
 
 impl Room {
@@ -72,12 +78,14 @@ impl Room {
         Ok(Room {
             scratch,
             octets: Octets {
+                words: Words {
+                    realm: Vec::new(alloc),
+                    session: Vec::new(alloc),
+                    user: Vec::new(alloc),
+                },
                 sent: Vec::new(alloc),
                 reply: Vec::new(alloc),
                 response: Vec::new(alloc),
-                realm: Vec::new(alloc),
-                session: Vec::new(alloc),
-                user: Vec::new(alloc),
                 request: Vec::new(alloc),
             },
         })
@@ -126,6 +134,45 @@ fn line_of<'a>(
     }
 }
 
+/// The request that a line is about.
+fn about_at<'a>(value: &Value<'a>, room: &'a mut Words) -> Result<LineRequest<'a>, LineFault>
+    ensures { MatchResult result (λ about. IsAbout (value_view value.now) about) (λ fault. Denies fault ((about : TheRequest) × IsAbout (value_view value.now) about)) }
+{
+    let Words {
+        realm,
+        session,
+        user,
+    } = room;
+    let run = run_at(value)?;
+    let time = time_at(value, "time")?;
+    let home = text_at(value, "home")?;
+    let lane = short_at(value, "lane")?;
+    let number = number_at(value, "record")?;
+    let client = client_at(value)?;
+    let port = short_at(value, "port")?;
+    let identifier = octet_at(value, "identifier")?;
+    let authenticator = authenticator_at(value)?;
+    let realm = words_at(value, "realm", "realm_octets", realm)?;
+    let session = words_at(value, "session", "session_octets", session)?;
+    let status = count_at(value, "status")?;
+    let user = words_at(value, "user", "user_octets", user)?;
+    Ok(LineRequest {
+        run,
+        time,
+        home,
+        lane,
+        number,
+        client,
+        port,
+        identifier,
+        authenticator,
+        realm,
+        session,
+        status,
+        user,
+    })
+}
+
 /// The keys of an entry, in the order in which they are written.
 const ENTRY_KEYS: [&str; 21] = [
     "type",
@@ -160,49 +207,23 @@ fn entry_of<'a>(value: &Value<'a>, room: &'a mut Octets) -> Result<Entry<'a>, Li
         return Err(LineFault::NotALine);
     }
     let Octets {
+        words,
         sent,
         reply,
         response,
-        realm,
-        session,
-        user,
         request: _,
     } = room;
-    let run = run_at(value)?;
-    let time = time_at(value, "time")?;
-    let home = text_at(value, "home")?;
-    let lane = short_at(value, "lane")?;
+    let about = about_at(value, words)?;
     let serial = serial_at(value, "serial")?;
-    let number = number_at(value, "record")?;
-    let client = client_at(value)?;
-    let port = short_at(value, "port")?;
-    let identifier = octet_at(value, "identifier")?;
-    let authenticator = authenticator_at(value)?;
     let sent = octets_at(value, "sent", sent)?;
     let reply = octets_at(value, "reply", reply)?;
     let response = octets_at(value, "response", response)?;
-    let realm = words_at(value, "realm", "realm_octets", realm)?;
-    let session = words_at(value, "session", "session_octets", session)?;
-    let status = count_at(value, "status")?;
-    let user = words_at(value, "user", "user_octets", user)?;
     Ok(Entry {
-        run,
-        time,
-        home,
-        lane,
+        about,
         serial,
-        number,
-        client,
-        port,
-        identifier,
-        authenticator,
         sent,
         reply,
         response,
-        realm,
-        session,
-        status,
-        user,
     })
 }
 
@@ -239,46 +260,14 @@ fn left_of<'a>(value: &Value<'a>, room: &'a mut Octets) -> Result<Left<'a>, Line
     if !has_only(value, &LEFT_KEYS) {
         return Err(LineFault::NotALine);
     }
-    let Octets {
-        realm,
-        session,
-        user,
-        request,
-        sent: _,
-        reply: _,
-        response: _,
-    } = room;
-    let run = run_at(value)?;
-    let time = time_at(value, "time")?;
-    let home = text_at(value, "home")?;
-    let lane = short_at(value, "lane")?;
-    let number = number_at(value, "record")?;
-    let client = client_at(value)?;
-    let port = short_at(value, "port")?;
-    let identifier = octet_at(value, "identifier")?;
-    let authenticator = authenticator_at(value)?;
-    let realm = words_at(value, "realm", "realm_octets", realm)?;
-    let session = words_at(value, "session", "session_octets", session)?;
-    let status = count_at(value, "status")?;
-    let user = words_at(value, "user", "user_octets", user)?;
+    let Octets { words, request, .. } = room;
+    let about = about_at(value, words)?;
     let state = state_at(value)?;
     let sendings = count_at(value, "sendings")?;
     let accepted = time_if_any_at(value, "accepted")?;
     let request = octets_at(value, "request", request)?;
     Ok(Left {
-        run,
-        time,
-        home,
-        lane,
-        number,
-        client,
-        port,
-        identifier,
-        authenticator,
-        realm,
-        session,
-        status,
-        user,
+        about,
         state,
         sendings,
         accepted,

@@ -5,12 +5,12 @@ ghost use Rattle.json.specs.Json.{array, string};
 ghost use Rattle.json.specs.Tree.{json_tokens};
 ghost use Rattle.ledger_lines.specs.internal.Adding.{Adds, AddsSlots, EndsLine, Opens};
 ghost use Rattle.ledger_lines.specs.Lines.{state_text as the_state_text};
-ghost use Rattle.ledger_lines.specs.Written.{HasLineBehind, HasValueBehind, begin_value, count_value, end_value, entry_value, file_value, first_slots, items_of, left_value, number_value, octets_value, request_slots, start_value, words_slots};
+ghost use Rattle.ledger_lines.specs.Written.{HasLineBehind, HasValueBehind, begin_value, count_value, end_value, entry_value, file_value, first_slots, items_of, lane_slots, left_value, number_value, octets_value, request_slots, start_value, words_slots};
 ghost use Rattle.rad_realms.specs.Printed.{address_text};
 
 use crate::begin::{Begin, End, FileBefore, LaneCount, LaneStart};
 use json::Writer;
-use rad_ledger::{Entry, Left, LeftState};
+use rad_ledger::{Entry, Left, LeftState, LineRequest};
 use std::alloc::{AllocError, Global};
 
 /// Writes a line that names a run, with its line end, behind what these octets are.
@@ -140,70 +140,58 @@ fn lane_start(writer: &mut Writer, lane: &LaneStart<'_>) -> Result<(), AllocErro
     writer.end_object()
 }
 
+/// Begins the object of a line of a type that is about a request, as far as the request's lane.
+fn lane_members(
+    alloc: Global,
+    writer: &mut Writer,
+    kind: &str,
+    about: &LineRequest<'_>,
+) -> Result<(), AllocError>
+    ensures { OnOk result (Opens writer.old writer.new (lane_slots kind.now about.now)) }
+{
+    first_members(alloc, writer, kind, about.run, about.time)?;
+    text(writer, "home", about.home)?;
+    number(writer, "lane", u64::from(about.lane))
+}
+
+/// Writes the request that a line is about, from its number on.
+fn request_members(
+    alloc: Global,
+    writer: &mut Writer,
+    about: &LineRequest<'_>,
+) -> Result<(), AllocError>
+    ensures { OnOk result (AddsSlots writer.old writer.new (request_slots about.now)) }
+{
+    number(writer, "record", about.number)?;
+    address(alloc, writer, "client", about.client)?;
+    number(writer, "port", u64::from(about.port))?;
+    number(writer, "identifier", u64::from(about.identifier))?;
+    digits(alloc, writer, "authenticator", &about.authenticator)?;
+    words(alloc, writer, "realm", "realm_octets", about.realm)?;
+    words(alloc, writer, "session", "session_octets", about.session)?;
+    number_if_any(writer, "status", widened(about.status))?;
+    words(alloc, writer, "user", "user_octets", about.user)
+}
+
 /// Writes the object of an entry.
 fn entry_members(alloc: Global, writer: &mut Writer, entry: &Entry<'_>) -> Result<(), AllocError>
     ensures { OnOk result (Adds writer.old writer.new (json_tokens (entry_value entry.now))) }
 {
-    first_members(alloc, writer, "entry", entry.run, entry.time)?;
-    text(writer, "home", entry.home)?;
-    number(writer, "lane", u64::from(entry.lane))?;
+    lane_members(alloc, writer, "entry", &entry.about)?;
     number(writer, "serial", entry.serial)?;
-    number(writer, "record", entry.number)?;
-    request_members(
-        alloc,
-        writer,
-        entry.client,
-        entry.port,
-        entry.identifier,
-        &entry.authenticator,
-    )?;
-    words(alloc, writer, "realm", "realm_octets", entry.realm)?;
-    words(alloc, writer, "session", "session_octets", entry.session)?;
-    number_if_any(writer, "status", widened(entry.status))?;
-    words(alloc, writer, "user", "user_octets", entry.user)?;
+    request_members(alloc, writer, &entry.about)?;
     digits(alloc, writer, "sent", entry.sent)?;
     digits(alloc, writer, "reply", entry.reply)?;
     digits(alloc, writer, "response", entry.response)?;
     writer.end_object()
 }
 
-/// Writes what names a request besides its number.
-fn request_members(
-    alloc: Global,
-    writer: &mut Writer,
-    client: [u8; 4],
-    port: u16,
-    identifier: u8,
-    authenticator: &[u8],
-) -> Result<(), AllocError>
-    ensures { OnOk result (AddsSlots writer.old writer.new (request_slots client port identifier authenticator.now)) }
-{
-    address(alloc, writer, "client", client)?;
-    number(writer, "port", u64::from(port))?;
-    number(writer, "identifier", u64::from(identifier))?;
-    digits(alloc, writer, "authenticator", authenticator)
-}
-
 /// Writes the object of a request that was left.
 fn left_members(alloc: Global, writer: &mut Writer, left: &Left<'_>) -> Result<(), AllocError>
     ensures { OnOk result (Adds writer.old writer.new (json_tokens (left_value left.now))) }
 {
-    first_members(alloc, writer, "left", left.run, left.time)?;
-    text(writer, "home", left.home)?;
-    number(writer, "lane", u64::from(left.lane))?;
-    number(writer, "record", left.number)?;
-    request_members(
-        alloc,
-        writer,
-        left.client,
-        left.port,
-        left.identifier,
-        &left.authenticator,
-    )?;
-    words(alloc, writer, "realm", "realm_octets", left.realm)?;
-    words(alloc, writer, "session", "session_octets", left.session)?;
-    number_if_any(writer, "status", widened(left.status))?;
-    words(alloc, writer, "user", "user_octets", left.user)?;
+    lane_members(alloc, writer, "left", &left.about)?;
+    request_members(alloc, writer, &left.about)?;
     text(writer, "state", state_text(left.state))?;
     number_if_any(writer, "sendings", widened(left.sendings))?;
     text_if_any(writer, "accepted", left.accepted)?;

@@ -84,8 +84,8 @@ fn mark_of(entry: &Entry<'_>) -> Mark
     ensures { result ≡ the_mark_of entry.now }
 {
     Mark {
-        lane: entry.lane,
-        number: entry.number,
+        lane: entry.about.lane,
+        number: entry.about.number,
     }
 }
 
@@ -94,8 +94,8 @@ fn head_of(entry: &Entry<'_>) -> RequestHead
     ensures { result ≡ the_head_of entry.now }
 {
     RequestHead {
-        identifier: entry.identifier,
-        authenticator: entry.authenticator,
+        identifier: entry.about.identifier,
+        authenticator: entry.about.authenticator,
     }
 }
 

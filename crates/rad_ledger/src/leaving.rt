@@ -42,8 +42,8 @@ fn is_request(left: &Left<'_>, request: &PacketRef<'_>, client: Option<&Secret>)
     ensures { IsTrue result ↔ HasRequest left.now (option_copied client.entry) }
 {
     request.code() == ACCOUNTING_REQUEST
-        && request.identifier() == left.identifier
-        && request.authenticator() == left.authenticator
+        && request.identifier() == left.about.identifier
+        && request.authenticator() == left.about.authenticator
         && is_right(request, client)
 }
 

@@ -2,7 +2,7 @@
 
 ghost use Rattle.std.specs.Prelude.{◌≡◌, ◌<◌, ◌^◌, IfOk, MatchOption, Some, length, option_copied, option_map, slice_get, string_bytes};
 ghost use Rattle.ledger_lines.specs.Written.{HasLineBehind};
-ghost use Rattle.rad_writer.specs.Entries.{HasEntryBehind, HasLeftBehind, HasParcelBehind, IsEntryOf, IsLeftOf, IsMomentIfAny, IsMomentText, Tells, state_in};
+ghost use Rattle.rad_writer.specs.Entries.{HasEntryBehind, HasLeftBehind, HasParcelBehind, IsAboutOf, IsEntryOf, IsLeftOf, IsMomentIfAny, IsMomentText, Tells, state_in};
 ghost use Rattle.rad_writer.specs.RunLines.{AreCounted, AreStarts, BeginsBehind, EndsBehind, NamesIfAny, count_in, lane_number, serial_in};
 
 use crate::counts::RunCounts;
@@ -14,7 +14,7 @@ use ledger_lines::{
 };
 use rad_desk::{LeftState, status_of, user_of};
 use rad_lane::session_of;
-use rad_ledger::{self, Entry, Left};
+use rad_ledger::{self, Entry, Left, LineRequest};
 use rad_metrics::VERSION;
 use rad_packet::read;
 use rad_realms::realm_of_packet;
@@ -133,25 +133,8 @@ fn left_of<'a>(
 ) -> Left<'a>
     ensures { IsLeftOf names.now head fate request.now time.now (option_copied accepted.entry) result }
 {
-    let told = told_in(request);
-    let home = names.home(head.lane);
-    let number = head.number;
-    let client = head.client;
-    let authenticator = head.authenticator;
     Left {
-        run: names.run,
-        time,
-        home,
-        lane: head.lane,
-        number,
-        client,
-        port: head.port,
-        identifier: head.identifier,
-        authenticator,
-        realm: told.realm,
-        session: told.session,
-        status: told.status,
-        user: told.user,
+        about: about_of(names, head, request, time),
         state: state_of(fate.state),
         sendings: fate.sendings,
         accepted,
@@ -194,23 +177,38 @@ fn entry_of<'a>(
 ) -> Entry<'a>
     ensures { IsEntryOf names.now head serial sent.now reply.now response.now time.now result }
 {
-    let told = told_in(sent);
+    Entry {
+        about: about_of(names, head, sent, time),
+        serial,
+        sent,
+        reply,
+        response,
+    }
+}
+
+/// Returns the request that the line of a parcel is about, by the parcel's head and this packet, with this text for the
+/// line's time.
+fn about_of<'a>(
+    names: &'a RunNames,
+    head: ParcelHead,
+    packet: &'a [u8],
+    time: &'a str,
+) -> LineRequest<'a>
+    ensures { IsAboutOf names.now head packet.now time.now result }
+{
+    let told = told_in(packet);
     let client = head.client;
     let authenticator = head.authenticator;
-    Entry {
+    LineRequest {
         run: names.run,
         time,
         home: names.home(head.lane),
         lane: head.lane,
-        serial,
         number: head.number,
         client,
         port: head.port,
         identifier: head.identifier,
         authenticator,
-        sent,
-        reply,
-        response,
         realm: told.realm,
         session: told.session,
         status: told.status,

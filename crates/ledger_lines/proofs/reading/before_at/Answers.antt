@@ -4,8 +4,7 @@ use Rattle.json.specs.Find.{get}
 use Rattle.json.specs.Json.{Json}
 use Rattle.json.specs.Value.{value_view}
 use Rattle.json.specs.declared.value.Value.{Value}
-use Rattle.ledger_lines.specs.Lines.{MayHaveFile}
-use Rattle.ledger_lines.proofs.Lines.{FileIfAnyThere, file_found, no_file, no_file_in, passed_on}
+use Rattle.ledger_lines.proofs.Lines.{file_found, no_file, no_file_in}
 use Rattle.ledger_lines.proofs.reading.before_at.Goals as goal
 
 abbrev view : Bor (Value Global) → Json
@@ -14,10 +13,8 @@ view v = value_view v.now
 pub returns-in_err-file_of-in-Some : goal.returns-in_err-file_of-in-Some
 returns-in_err-file_of-in-Some c =
     let value = value_view c.args.value.now in
-    let fault = c.in_err-file_of-in-Some.field-0.0 in
     let there : Some (view c.in-Some.found) ≡ get (codes "before") value = sym (ap (option_map view) c.in-Some.is) ∙ c.get.ensures in
-    passed_on (FileIfAnyThere value) c.from_residual.result (MayHaveFile value) fault c.from_residual.ensures.1
-    (no_file_in value fault (value_view c.in-Some.found.now) there c.in_err-file_of-in-Some.ensures)
+    no_file_in value c.in_err-file_of-in-Some.field-0.0 (value_view c.in-Some.found.now) there c.from_residual.result c.from_residual.ensures.1 c.in_err-file_of-in-Some.ensures
 
 pub returns-in_ok-file_of-in-Some : goal.returns-in_ok-file_of-in-Some
 returns-in_ok-file_of-in-Some c =

@@ -1,26 +1,16 @@
 use Rattle.json.specs.Value.{value_view}
-use Rattle.ledger_lines.specs.Lines.{IsLaneStart}
 use Rattle.ledger_lines.specs.declared.faults.LineFault.TheVariants.{NotALine}
-use Rattle.ledger_lines.proofs.Lines.{passed_on, has_others, start_members, IsStartThere, start_lane, start_home, start_serial}
+use Rattle.ledger_lines.proofs.Lines.{has_others, start_lane, start_home, start_serial, start_members}
 use Rattle.ledger_lines.proofs.reading.start_of.Goals as goal
 
 pub returns-in_err-short_at : goal.returns-in_err-short_at
-returns-in_err-short_at c =
-    let value = value_view c.args.value.now in
-    let fault = c.in_err-short_at.field-0.0 in
-    passed_on (IsStartThere value fault) c.from_residual.result (IsLaneStart value) fault c.from_residual.ensures.1 (start_lane value fault c.in_err-short_at.ensures)
+returns-in_err-short_at c = start_lane (value_view c.args.value.now) c.in_err-short_at.field-0.0 c.from_residual.result c.from_residual.ensures.1 c.in_err-short_at.ensures
 
 pub returns-in_err-text_at : goal.returns-in_err-text_at
-returns-in_err-text_at c =
-    let value = value_view c.args.value.now in
-    let fault = c.in_err-text_at.field-0.0 in
-    passed_on (IsStartThere value fault) c.from_residual-in_err-text_at.result (IsLaneStart value) fault c.from_residual-in_err-text_at.ensures.1 (start_home value fault c.in_err-text_at.ensures)
+returns-in_err-text_at c = start_home (value_view c.args.value.now) c.in_err-text_at.field-0.0 c.from_residual-in_err-text_at.result c.from_residual-in_err-text_at.ensures.1 c.in_err-text_at.ensures
 
 pub returns-in_err-serial_at : goal.returns-in_err-serial_at
-returns-in_err-serial_at c =
-    let value = value_view c.args.value.now in
-    let fault = c.in_err-serial_at.field-0.0 in
-    passed_on (IsStartThere value fault) c.from_residual-in_err-serial_at.result (IsLaneStart value) fault c.from_residual-in_err-serial_at.ensures.1 (start_serial value fault c.in_err-serial_at.ensures)
+returns-in_err-serial_at c = start_serial (value_view c.args.value.now) c.in_err-serial_at.field-0.0 c.from_residual-in_err-serial_at.result c.from_residual-in_err-serial_at.ensures.1 c.in_err-serial_at.ensures
 
 pub returns-then-not-has_only : goal.returns-then-not-has_only
 returns-then-not-has_only c = start_members (value_view c.args.value.now) NotALine (has_others c.has_only.result _ c.has_only.ensures c.if-not-has_only.true)
