@@ -8,7 +8,7 @@ use Rattle.json.specs.Find.{get}
 use Rattle.ledger_lines.specs.Lines.{Denies, HasText, HasNumber, HasOctets, IsAbout, MayHaveNumber, MayHaveWords, HasOnly, keys_of_entry, HasRun, HasTime, HasClient, HasAuthenticator, HasLanes, HasState, MayHaveTime, keys_of_left, HasArray, MayHaveSum, MayHaveFile, keys_of_begin, IsFileBefore, IsHidden, IsEntry, IsLeft, IsBegin, IsEnd, IsLaneStart, IsLaneCount}
 use Rattle.rad_ledger.specs.declared.entry.Entry.{Entry}
 use Rattle.rad_ledger.specs.declared.left.Left.{Left}
-use Rattle.rad_ledger.specs.declared.left.LeftState.{LeftState}
+use Rattle.rad_desk.specs.declared.leaving.LeftState.{LeftState}
 use Rattle.rad_ledger.specs.declared.line_request.LineRequest.{LineRequest}
 use Rattle.ledger_lines.specs.declared.begin.Begin.{Begin}
 use Rattle.ledger_lines.specs.declared.begin.End.{End}

@@ -6,7 +6,7 @@ ghost use Rattle.json.specs.Json.{Items, Json};
 ghost use Rattle.json.specs.Strict.{keys};
 ghost use Rattle.json.specs.Value.{items_view, members_view, value_view};
 ghost use Rattle.ledger_lines.specs.internal.Known.{IsAbsent};
-ghost use Rattle.rad_ledger.specs.declared.left.LeftState.{LeftState as TheState};
+ghost use Rattle.rad_desk.specs.declared.leaving.LeftState.{LeftState as TheState};
 ghost use Rattle.ledger_lines.specs.Lines.{as_items, Denies, HasArray, HasAuthenticator, HasClient, HasList, HasNumber, HasOctets, HasOnly, HasRun, HasText, HasState, HasTime, HasTimeForm, has_form, IsTime, IsValue, MayHaveNumber, MayHaveSum, MayHaveTime, MayHaveWords};
 
 use crate::digits::{fill, octets_of};

@@ -1,17 +1,7 @@
 //! A request that was left when a run ended.
 
 use crate::line_request::LineRequest;
-
-/// How a request was left.
-#[derive(Clone, Copy, Debug, PartialEq, Eq)]
-pub enum LeftState {
-    /// It was in the queue of its lane: it was never sent to the home server.
-    Queued,
-    /// It was sent to the home server, which did not answer it.
-    Outstanding,
-    /// It was answered, and its response was not sent to the client.
-    Untaken,
-}
+use rad_desk::LeftState;
 
 /// A request that was accepted and whose client has no response of it.
 #[derive(Clone, Copy)]

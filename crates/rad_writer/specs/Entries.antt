@@ -5,14 +5,10 @@ use Rattle.ledger_files.specs.declared.utc.UtcTime.{UtcTime}
 use Rattle.ledger_lines.specs.Written.{HasValueBehind, entry_value, left_value}
 use Rattle.rad_config.specs.Realm.{realm_of_packet}
 use Rattle.rad_desk.specs.ToldValues.{first_value, status_in}
-use Rattle.rad_desk.specs.declared.leaving.LeftState.{LeftState}
-use Rattle.rad_desk.specs.declared.leaving.LeftState.TheVariants as state
 use Rattle.rad_lane.specs.Session.{session_id}
 use Rattle.rad_ledger.specs.declared.entry.Entry.{Entry}
 use Rattle.rad_ledger.specs.declared.left.Left.{Left}
 use Rattle.rad_ledger.specs.declared.line_request.LineRequest.{LineRequest}
-use Rattle.rad_ledger.specs.declared.left.LeftState.{LeftState as Named}
-use Rattle.rad_ledger.specs.declared.left.LeftState.TheVariants as named
 use Rattle.rad_packet.specs.Reading.{ReadsAs, Refuses}
 use Rattle.rad_packet.specs.declared.faults.ReadFault.{ReadFault}
 use Rattle.rad_writer.specs.declared.parcel.Fate.{Fate}
@@ -68,16 +64,10 @@ pub record IsEntryOf (names : RunNames) (head : ParcelHead) (its_serial : ℕ) (
   pub reply : entry.reply.now ≡ answer
   pub response : entry.response.now ≡ given
 
--- The state that a line names.
-abbrev pub state_in : Named → LeftState
-state_in named.Queued = state.Queued
-state_in named.Outstanding = state.Outstanding
-state_in named.Untaken = state.Untaken
-
 -- The request that is left has this fate and these octets.
 pub record IsLeftOf (names : RunNames) (head : ParcelHead) (fate : Fate) (octets moment : List ℕ) (since : Option (List ℕ)) (left : Left) : Type 0 where
   pub about : IsAboutOf names head octets moment left.about
-  pub state : state_in left.state ≡ fate.state
+  pub state : left.state ≡ fate.state
   pub sendings : left.sendings ≡ fate.sendings
   pub accepted : option_copied left.accepted ≡ since
   pub request : left.request.now ≡ octets

@@ -2,7 +2,7 @@
 
 ghost use Rattle.std.specs.Prelude.{◌≡◌, ◌<◌, ◌^◌, IfOk, MatchOption, Some, length, option_copied, option_map, slice_get, string_bytes};
 ghost use Rattle.ledger_lines.specs.Written.{HasLineBehind};
-ghost use Rattle.rad_writer.specs.Entries.{HasEntryBehind, HasLeftBehind, HasParcelBehind, IsAboutOf, IsEntryOf, IsLeftOf, IsMomentIfAny, IsMomentText, Tells, state_in};
+ghost use Rattle.rad_writer.specs.Entries.{HasEntryBehind, HasLeftBehind, HasParcelBehind, IsAboutOf, IsEntryOf, IsLeftOf, IsMomentIfAny, IsMomentText, Tells};
 ghost use Rattle.rad_writer.specs.RunLines.{AreCounted, AreStarts, BeginsBehind, EndsBehind, NamesIfAny, count_in, lane_number, serial_in};
 
 use crate::counts::RunCounts;
@@ -12,9 +12,9 @@ use ledger_files::{FoundFile, SUM_OCTETS, UtcTime};
 use ledger_lines::{
     Begin, End, FileBefore, LaneCount, LaneStart, write_begin, write_end, write_entry, write_left,
 };
-use rad_desk::{LeftState, status_of, user_of};
+use rad_desk::{status_of, user_of};
 use rad_lane::session_of;
-use rad_ledger::{self, Entry, Left, LineRequest};
+use rad_ledger::{Entry, Left, LineRequest};
 use rad_metrics::VERSION;
 use rad_packet::read;
 use rad_realms::realm_of_packet;
@@ -135,21 +135,10 @@ fn left_of<'a>(
 {
     Left {
         about: about_of(names, head, request, time),
-        state: state_of(fate.state),
+        state: fate.state,
         sendings: fate.sendings,
         accepted,
         request,
-    }
-}
-
-/// Returns the state of a request that is left, as a line names it.
-fn state_of(state: LeftState) -> rad_ledger::LeftState
-    ensures { state_in result ≡ state }
-{
-    match state {
-        LeftState::Queued => rad_ledger::LeftState::Queued,
-        LeftState::Outstanding => rad_ledger::LeftState::Outstanding,
-        LeftState::Untaken => rad_ledger::LeftState::Untaken,
     }
 }
 
