@@ -11,11 +11,11 @@ use Rattle.rad_ledger.specs.declared.left.Left.{Left}
 use Rattle.rad_desk.specs.declared.leaving.LeftState.{LeftState}
 use Rattle.rad_ledger.specs.declared.line_request.LineRequest.{LineRequest}
 use Rattle.ledger_lines.specs.declared.begin.Begin.{Begin}
-use Rattle.ledger_lines.specs.declared.begin.End.{End}
+use Rattle.ledger_lines.specs.declared.end.End.{End}
 use Rattle.ledger_lines.specs.declared.begin.FileBefore.{FileBefore}
-use Rattle.ledger_lines.specs.declared.begin.Hidden.{Hidden}
+use Rattle.ledger_lines.specs.declared.hidden.Hidden.{Hidden}
 use Rattle.ledger_lines.specs.declared.begin.LaneStart.{LaneStart}
-use Rattle.ledger_lines.specs.declared.begin.LaneCount.{LaneCount}
+use Rattle.ledger_lines.specs.declared.end.LaneCount.{LaneCount}
 use Rattle.ledger_lines.specs.declared.faults.LineFault.{LineFault}
 use Rattle.ledger_lines.specs.declared.faults.LineFault.TheVariants.{NotALine, OutOfMemory}
 

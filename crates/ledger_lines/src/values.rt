@@ -1,19 +1,18 @@
 //! What a line has at its keys.
 
-ghost use Rattle.std.specs.Prelude.{◌≡◌, ◌↔◌, ◌^◌, ◌<◌, ℕ, List, Option, codes, length, map, MatchOption, MatchResult, IsTrue, option_copied, option_map};
-ghost use Rattle.std.specs.List.{All, Contains};
+ghost use Rattle.std.specs.Prelude.{◌≡◌, ◌++◌, [], ◌∷◌, IfErr, List, MatchResult, OnOk, Option, option_copied, option_map, ◌<◌, ◌^◌, ◌↔◌, ℕ, length, map, MatchOption, IsTrue};
+ghost use Rattle.json.specs.Value.{items_view, value_view, members_view};
+ghost use Rattle.ledger_lines.specs.declared.faults.LineFault.TheVariants.{OutOfMemory};
+ghost use Rattle.ledger_lines.specs.Lines.{Denies, HasText, as_items, HasArray, HasAuthenticator, HasClient, HasList, HasNumber, HasOctets, HasOnly, HasRun, HasTime, HasTimeForm, has_form, IsTime, IsValue, MayHaveNumber, MayHaveSum, MayHaveTime, MayHaveWords};
 ghost use Rattle.json.specs.Json.{Items, Json};
+ghost use Rattle.std.specs.List.{All, Contains};
 ghost use Rattle.json.specs.Strict.{keys};
-ghost use Rattle.json.specs.Value.{items_view, members_view, value_view};
 ghost use Rattle.ledger_lines.specs.internal.Known.{IsAbsent};
-ghost use Rattle.rad_desk.specs.declared.leaving.LeftState.{LeftState as TheState};
-ghost use Rattle.ledger_lines.specs.Lines.{as_items, Denies, HasArray, HasAuthenticator, HasClient, HasList, HasNumber, HasOctets, HasOnly, HasRun, HasText, HasState, HasTime, HasTimeForm, has_form, IsTime, IsValue, MayHaveNumber, MayHaveSum, MayHaveTime, MayHaveWords};
 
 use crate::digits::{fill, octets_of};
 use crate::faults::LineFault;
 use crate::moments::is_moment;
 use json::{Error, Scratch, Value};
-use rad_ledger::LeftState;
 use rad_realms::read_address;
 use std::alloc::Global;
 
@@ -232,18 +231,6 @@ pub(crate) fn time_if_any_at<'a>(value: &Value<'a>, key: &str) -> Result<Option<
     Ok(Some(time_at(value, key)?))
 }
 
-/// How a request was left.
-pub(crate) fn state_at(value: &Value<'_>) -> Result<LeftState, LineFault>
-    ensures { MatchResult result (λ state. HasState (value_view value.now) state) (λ fault. Denies fault ((state : TheState) × HasState (value_view value.now) state)) }
-{
-    match text_at(value, "state")? {
-        "queued" => Ok(LeftState::Queued),
-        "outstanding" => Ok(LeftState::Outstanding),
-        "untaken" => Ok(LeftState::Untaken),
-        _ => Err(LineFault::NotALine),
-    }
-}
-
 /// The form of a moment: `d` stands for a digit.
 const FORM: [u8; 24] = *b"dddd-dd-ddTdd:dd:dd.dddZ";
 
@@ -361,5 +348,16 @@ fn items_of<'v, 'a>(value: &'v Value<'a>) -> Option<&'v [Value<'a>]>
         Some(values.as_slice())
     } else {
         None
+    }
+}
+
+/// Puts a value behind the others.
+pub(crate) fn push<T: Drop>(list: &mut Vec<T>, value: T) -> Result<(), LineFault>
+    ensures pushed { OnOk result (list.new.items ≡ list.old.items ++ value ∷ []) }
+    ensures refused { IfErr result (λ fault. fault ≡ OutOfMemory) }
+{
+    match list.push(value) {
+        Ok(()) => Ok(()),
+        Err(_) => Err(LineFault::OutOfMemory),
     }
 }

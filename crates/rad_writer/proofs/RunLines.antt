@@ -2,7 +2,7 @@
 use Rattle.std.proofs.Common.{◌≡◌, ℕ, suc, ◌+◌, ◌<◌, ◌≤◌, List, [], ◌∷◌, ◌++◌, length, take, map, String, Result, Ok, Err, sym, subst, ap, ◌∙◌, arith}
 use Rattle.std.specs.Prelude.{IfOk, slice_get, string_bytes}
 use Rattle.std.proofs.lemmas.List.{map-append, take_all}
-use Rattle.ledger_lines.specs.declared.begin.LaneCount.{LaneCount}
+use Rattle.ledger_lines.specs.declared.end.LaneCount.{LaneCount}
 use Rattle.ledger_lines.specs.declared.begin.LaneStart.{LaneStart}
 use Rattle.rad_writer.specs.RunLines.{AreCounted, AreStarts, lane_number, lane_numbers, serial_in, serials_in}
 

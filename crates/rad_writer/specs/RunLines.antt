@@ -3,9 +3,9 @@ use Rattle.std.specs.Prelude.{◌≡◌, ℕ, zero, suc, ◌<◌, ◌^◌, List,
 use Rattle.sha2.specs.Sha256.{sha256}
 use Rattle.ledger_lines.specs.Written.{HasValueBehind, begin_value, end_value}
 use Rattle.ledger_lines.specs.declared.begin.Begin.{Begin}
-use Rattle.ledger_lines.specs.declared.begin.End.{End}
+use Rattle.ledger_lines.specs.declared.end.End.{End}
 use Rattle.ledger_lines.specs.declared.begin.FileBefore.{FileBefore}
-use Rattle.ledger_lines.specs.declared.begin.LaneCount.{LaneCount}
+use Rattle.ledger_lines.specs.declared.end.LaneCount.{LaneCount}
 use Rattle.ledger_lines.specs.declared.begin.LaneStart.{LaneStart}
 use Rattle.ledger_files.specs.declared.disk.FoundFile.{FoundFile}
 use Rattle.rad_writer.specs.declared.lines.FileStart.{FileStart}
