@@ -7,6 +7,7 @@ ghost use Rattle.rad_writer.specs.RunLines.{AreCounted, AreStarts, BeginsBehind,
 
 use crate::counts::RunCounts;
 use crate::parcel::{Fate, Origin, Parcel, ParcelHead};
+use crate::progress::LaneProgress;
 use crate::run_names::RunNames;
 use ledger_files::{FoundFile, SUM_OCTETS, UtcTime};
 use ledger_lines::{
@@ -243,10 +244,12 @@ pub(crate) struct FileStart<'a> {
     pub(crate) sum: [u8; SUM_OCTETS],
     /// The file of another run that was written last, if there is one and this is the first file.
     pub(crate) before: Option<&'a FoundFile>,
+    /// Whether the file before it in the run is gone, with its entries.
+    pub(crate) is_gone: bool,
 }
 
-/// Writes the line that begins a file behind what these octets are. The next entry of each lane has the serial that is in
-/// `next` at its place.
+/// Writes the line that begins a file behind what these octets are. It tells the serial of the next entry of each lane, by the
+/// progress of the lanes.
 ///
 /// # Errors
 ///
@@ -256,14 +259,14 @@ pub(crate) fn begin_line(
     names: &RunNames,
     time: u64,
     start: FileStart<'_>,
-    next: &[u64],
+    progress: &[LaneProgress],
     out: Vec<u8>,
 ) -> Result<Vec<u8>, AllocError>
     ensures line { IfOk result (λ all. HasLineBehind out.items all.items) }
-    ensures begin { IfOk result (λ all. BeginsBehind names.now start.entry next.now out.items all.items) }
+    ensures begin { IfOk result (λ all. BeginsBehind names.now start.entry progress.now out.items all.items) }
 {
     let time = time_text(alloc, time)?;
-    let lanes = lane_starts(alloc, names, next)?;
+    let lanes = lane_starts(alloc, names, start.is_gone, progress)?;
     let begin = begin_of(names, time.as_str(), start, lanes);
     write_begin(alloc, &begin, out)
 }
@@ -314,13 +317,14 @@ fn file_before(found: Option<&FoundFile>) -> Option<FileBefore<'_>>
 fn lane_starts<'a>(
     alloc: Global,
     names: &'a RunNames,
-    next: &[u64],
+    is_gone: bool,
+    progress: &[LaneProgress],
 ) -> Result<Vec<LaneStart<'a>>, AllocError>
-    ensures { IfOk result (λ lanes. AreStarts names.now.homes.items next.now lanes.items) }
+    ensures { IfOk result (λ lanes. AreStarts names.now.homes.items is_gone progress.now lanes.items) }
 {
     let mut lanes = Vec::with_capacity(alloc, names.homes.len())?;
     for lane in 0..names.homes.len() {
-        let serial = serial_at(next, lane);
+        let serial = serial_at(progress, is_gone, lane);
         lanes.push(LaneStart {
             lane: number_of(lane),
             home: names.homes[lane].as_str(),
@@ -375,13 +379,13 @@ fn number_of(lane: usize) -> u16
     u16::try_from(lane).unwrap_or(u16::MAX)
 }
 
-/// Returns a lane's next serial.
-fn serial_at(next: &[u64], lane: usize) -> u64
+/// Returns the serial of a lane's next entry.
+fn serial_at(progress: &[LaneProgress], is_gone: bool, lane: usize) -> u64
     ensures bounded { result < 2 ^ 63 }
-    ensures value { result ≡ serial_in (slice_get next.now lane) }
+    ensures value { result ≡ serial_in is_gone (slice_get progress.now lane) }
 {
-    match next.get(lane) {
-        Some(serial) => (*serial).min(GREATEST_SERIAL),
+    match progress.get(lane) {
+        Some(lane) => lane.start(is_gone).min(GREATEST_SERIAL),
         None => 0,
     }
 }
