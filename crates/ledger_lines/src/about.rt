@@ -18,7 +18,6 @@ use json::{Value, Writer};
 use rad_ledger::LineRequest;
 use std::alloc::{AllocError, Global};
 
-/// The request that a line is about.
 pub(crate) fn about_at<'a>(
     value: &Value<'a>,
     room: &'a mut Words,

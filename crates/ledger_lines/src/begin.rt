@@ -67,7 +67,6 @@ const BEGIN_KEYS: [&str; 8] = [
     "type", "run", "time", "version", "file", "sum", "before", "lanes",
 ];
 
-/// The first line of a file that a value is.
 pub(crate) fn begin_of<'a>(alloc: Global, value: &Value<'a>) -> Result<Begin<'a>, LineFault>
     requires { HasText (codes "type") (value_view value.now) (codes "begin") }
     ensures { MatchResult result (λ begin. IsBegin (value_view value.now) begin) (λ fault. Denies fault ((begin : TheBegin) × IsBegin (value_view value.now) begin)) }
@@ -93,7 +92,6 @@ pub(crate) fn begin_of<'a>(alloc: Global, value: &Value<'a>) -> Result<Begin<'a>
     })
 }
 
-/// The file of another run that the first line of a file names, where it names one.
 fn before_at<'a>(value: &Value<'a>) -> Result<Option<FileBefore<'a>>, LineFault>
     ensures { MatchResult result (λ before. MayHaveFile (value_view value.now) before) (λ fault. Denies fault ((before : Option TheFile) × MayHaveFile (value_view value.now) before)) }
 {
@@ -103,7 +101,6 @@ fn before_at<'a>(value: &Value<'a>) -> Result<Option<FileBefore<'a>>, LineFault>
     }
 }
 
-/// The file that a value names.
 fn file_of<'a>(value: &Value<'a>) -> Result<FileBefore<'a>, LineFault>
     ensures { MatchResult result (λ file. IsFileBefore (value_view value.now) file) (λ fault. Denies fault ((file : TheFile) × IsFileBefore (value_view value.now) file)) }
 {
@@ -120,7 +117,6 @@ fn file_of<'a>(value: &Value<'a>) -> Result<FileBefore<'a>, LineFault>
     })
 }
 
-/// The lanes of the first line of a file.
 #[tactic(auto, using(crate::proofs::Lists::lanes_found, crate::proofs::Lists::no_list_of_lanes, crate::proofs::Lists::no_lanes_in))]
 fn starts_at<'a>(alloc: Global, value: &Value<'a>) -> Result<Vec<LaneStart<'a>>, LineFault>
     ensures { MatchResult result (λ lanes. HasLanes IsLaneStart (value_view value.now) lanes.items) (λ fault. Denies fault ((lanes : List TheStart) × HasLanes IsLaneStart (value_view value.now) lanes)) }
@@ -128,7 +124,6 @@ fn starts_at<'a>(alloc: Global, value: &Value<'a>) -> Result<Vec<LaneStart<'a>>,
     starts_of(alloc, lanes_at(value)?)
 }
 
-/// The lanes that these values are.
 fn starts_of<'a>(alloc: Global, values: &[Value<'a>]) -> Result<Vec<LaneStart<'a>>, LineFault>
     ensures { MatchResult result (λ lanes. AreEach IsLaneStart (items_view values.now) lanes.items) (λ fault. Denies fault ((lanes : List TheStart) × AreEach IsLaneStart (items_view values.now) lanes)) }
 {
@@ -139,7 +134,6 @@ fn starts_of<'a>(alloc: Global, values: &[Value<'a>]) -> Result<Vec<LaneStart<'a
     Ok(starts)
 }
 
-/// The lane that a value of that list is.
 fn start_of<'a>(value: &Value<'a>) -> Result<LaneStart<'a>, LineFault>
     ensures { MatchResult result (λ start. IsLaneStart (value_view value.now) start) (λ fault. Denies fault ((start : TheStart) × IsLaneStart (value_view value.now) start)) }
 {
@@ -167,7 +161,6 @@ pub fn write_begin(alloc: Global, begin: &Begin<'_>, out: Vec<u8>) -> Result<Vec
     close_line(writer)
 }
 
-/// Writes the object of a line that names a run.
 fn begin_members(alloc: Global, writer: &mut Writer, begin: &Begin<'_>) -> Result<(), AllocError>
     ensures { OnOk result (Adds writer.old writer.new (json_tokens (begin_value begin.now))) }
 {
@@ -181,7 +174,6 @@ fn begin_members(alloc: Global, writer: &mut Writer, begin: &Begin<'_>) -> Resul
     writer.end_object()
 }
 
-/// Writes the file of another run that such a line names, if it names one.
 fn before_if_any(
     alloc: Global,
     writer: &mut Writer,
@@ -196,7 +188,6 @@ fn before_if_any(
     file_members(alloc, writer, &file)
 }
 
-/// Writes the object of that file.
 fn file_members(alloc: Global, writer: &mut Writer, file: &FileBefore<'_>) -> Result<(), AllocError>
     ensures { OnOk result (Adds writer.old writer.new (json_tokens (file_value file.now))) }
 {
@@ -207,7 +198,6 @@ fn file_members(alloc: Global, writer: &mut Writer, file: &FileBefore<'_>) -> Re
     writer.end_object()
 }
 
-/// Writes the lanes of such a line.
 fn lane_starts(writer: &mut Writer, lanes: &[LaneStart<'_>]) -> Result<(), AllocError>
     ensures { OnOk result (Adds writer.old writer.new (json_tokens (array (items_of start_value lanes.now)))) }
 {
@@ -218,7 +208,6 @@ fn lane_starts(writer: &mut Writer, lanes: &[LaneStart<'_>]) -> Result<(), Alloc
     writer.end_array()
 }
 
-/// Writes a lane of such a line.
 fn lane_start(writer: &mut Writer, lane: &LaneStart<'_>) -> Result<(), AllocError>
     ensures { OnOk result (Adds writer.old writer.new (json_tokens (start_value lane.now))) }
 {

@@ -44,7 +44,6 @@ pub struct End<'a> {
     pub lanes: Vec<LaneCount>,
 }
 
-/// The end line that a value is.
 pub(crate) fn end_of<'a>(alloc: Global, value: &Value<'a>) -> Result<End<'a>, LineFault>
     requires { HasText (codes "type") (value_view value.now) (codes "end") }
     ensures { MatchResult result (λ end. IsEnd (value_view value.now) end) (λ fault. Denies fault ((end : TheEnd) × IsEnd (value_view value.now) end)) }
@@ -64,7 +63,6 @@ pub(crate) fn end_of<'a>(alloc: Global, value: &Value<'a>) -> Result<End<'a>, Li
     })
 }
 
-/// The lanes of an end line.
 #[tactic(auto, using(crate::proofs::Lists::lanes_found, crate::proofs::Lists::no_list_of_lanes, crate::proofs::Lists::no_lanes_in))]
 fn counts_at(alloc: Global, value: &Value<'_>) -> Result<Vec<LaneCount>, LineFault>
     ensures { MatchResult result (λ lanes. HasLanes IsLaneCount (value_view value.now) lanes.items) (λ fault. Denies fault ((lanes : List TheCount) × HasLanes IsLaneCount (value_view value.now) lanes)) }
@@ -72,7 +70,6 @@ fn counts_at(alloc: Global, value: &Value<'_>) -> Result<Vec<LaneCount>, LineFau
     counts_of(alloc, lanes_at(value)?)
 }
 
-/// The lanes that these values count.
 fn counts_of(alloc: Global, values: &[Value<'_>]) -> Result<Vec<LaneCount>, LineFault>
     ensures { MatchResult result (λ lanes. AreEach IsLaneCount (items_view values.now) lanes.items) (λ fault. Denies fault ((lanes : List TheCount) × AreEach IsLaneCount (items_view values.now) lanes)) }
 {
@@ -83,7 +80,6 @@ fn counts_of(alloc: Global, values: &[Value<'_>]) -> Result<Vec<LaneCount>, Line
     Ok(counts)
 }
 
-/// The lane that a value of that list counts.
 fn count_of(value: &Value<'_>) -> Result<LaneCount, LineFault>
     ensures { MatchResult result (λ count. IsLaneCount (value_view value.now) count) (λ fault. Denies fault ((count : TheCount) × IsLaneCount (value_view value.now) count)) }
 {
@@ -119,7 +115,6 @@ pub fn write_end(alloc: Global, end: &End<'_>, out: Vec<u8>) -> Result<Vec<u8>, 
     close_line(writer)
 }
 
-/// Writes the object of a line that ends a run.
 fn end_members(alloc: Global, writer: &mut Writer, end: &End<'_>) -> Result<(), AllocError>
     ensures { OnOk result (Adds writer.old writer.new (json_tokens (end_value end.now))) }
 {
@@ -130,7 +125,6 @@ fn end_members(alloc: Global, writer: &mut Writer, end: &End<'_>) -> Result<(), 
     writer.end_object()
 }
 
-/// Writes the lanes of such a line.
 fn lane_counts(writer: &mut Writer, lanes: &[LaneCount]) -> Result<(), AllocError>
     ensures { OnOk result (Adds writer.old writer.new (json_tokens (array (items_of count_value lanes.now)))) }
 {
@@ -141,7 +135,6 @@ fn lane_counts(writer: &mut Writer, lanes: &[LaneCount]) -> Result<(), AllocErro
     writer.end_array()
 }
 
-/// Writes a lane of such a line.
 fn lane_count(writer: &mut Writer, lane: &LaneCount) -> Result<(), AllocError>
     ensures { OnOk result (Adds writer.old writer.new (json_tokens (count_value lane.now))) }
 {

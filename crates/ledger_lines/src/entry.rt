@@ -42,7 +42,6 @@ const ENTRY_KEYS: [&str; 21] = [
     "response",
 ];
 
-/// The entry that a value is.
 pub(crate) fn entry_of<'a>(value: &Value<'a>, room: &'a mut Octets) -> Result<Entry<'a>, LineFault>
     requires { HasText (codes "type") (value_view value.now) (codes "entry") }
     ensures { MatchResult result (λ entry. IsEntry (value_view value.now) entry) (λ fault. Denies fault ((entry : TheEntry) × IsEntry (value_view value.now) entry)) }
@@ -85,7 +84,6 @@ pub fn write_entry(alloc: Global, entry: &Entry<'_>, out: Vec<u8>) -> Result<Vec
     close_line(writer)
 }
 
-/// Writes the object of an entry.
 fn entry_members(alloc: Global, writer: &mut Writer, entry: &Entry<'_>) -> Result<(), AllocError>
     ensures { OnOk result (Adds writer.old writer.new (json_tokens (entry_value entry.now))) }
 {

@@ -43,7 +43,6 @@ const LEFT_KEYS: [&str; 21] = [
     "request",
 ];
 
-/// The request that was left that a value is.
 pub(crate) fn left_of<'a>(value: &Value<'a>, room: &'a mut Octets) -> Result<Left<'a>, LineFault>
     requires { HasText (codes "type") (value_view value.now) (codes "left") }
     ensures { MatchResult result (λ left. IsLeft (value_view value.now) left) (λ fault. Denies fault ((left : TheLeft) × IsLeft (value_view value.now) left)) }
@@ -66,7 +65,6 @@ pub(crate) fn left_of<'a>(value: &Value<'a>, room: &'a mut Octets) -> Result<Lef
     })
 }
 
-/// How a request was left.
 pub(crate) fn state_at(value: &Value<'_>) -> Result<LeftState, LineFault>
     ensures { MatchResult result (λ state. HasState (value_view value.now) state) (λ fault. Denies fault ((state : TheState) × HasState (value_view value.now) state)) }
 {
@@ -92,7 +90,6 @@ pub fn write_left(alloc: Global, left: &Left<'_>, out: Vec<u8>) -> Result<Vec<u8
     close_line(writer)
 }
 
-/// Writes the object of a request that was left.
 fn left_members(alloc: Global, writer: &mut Writer, left: &Left<'_>) -> Result<(), AllocError>
     ensures { OnOk result (Adds writer.old writer.new (json_tokens (left_value left.now))) }
 {
@@ -105,7 +102,6 @@ fn left_members(alloc: Global, writer: &mut Writer, left: &Left<'_>) -> Result<(
     writer.end_object()
 }
 
-/// Returns how a line has it how a request was left.
 fn state_text(state: LeftState) -> &'static str
     ensures { result.now ≡ the_state_text state }
 {

@@ -48,7 +48,6 @@ pub(crate) fn number(writer: &mut Writer, key: &str, value: u64) -> Result<(), A
     writer.u64(value)
 }
 
-/// A number, where there is one.
 pub(crate) fn number_if_any(
     writer: &mut Writer,
     key: &str,
@@ -72,7 +71,6 @@ pub(crate) fn widened(value: Option<u32>) -> Option<u64>
     }
 }
 
-/// A text, where there is one.
 pub(crate) fn text_if_any(
     writer: &mut Writer,
     key: &str,
@@ -112,7 +110,6 @@ pub(crate) fn digits(
     text(writer, key, digits.as_str())
 }
 
-/// A SHA-256 as digits, where there is one.
 pub(crate) fn digits_if_any(
     alloc: Global,
     writer: &mut Writer,

@@ -106,7 +106,6 @@ pub fn read_line<'a>(
     line_of(alloc, &value, digits)
 }
 
-/// The line that a value is.
 fn line_of<'a>(
     alloc: Global,
     value: &Value<'a>,

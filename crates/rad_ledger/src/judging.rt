@@ -79,7 +79,6 @@ fn judge_packets(
     )
 }
 
-/// Returns the mark that an entry's request was sent with.
 fn mark_of(entry: &Entry<'_>) -> Mark
     ensures { result ≡ the_mark_of entry.now }
 {
@@ -89,7 +88,6 @@ fn mark_of(entry: &Entry<'_>) -> Mark
     }
 }
 
-/// Returns the head of an entry's request.
 fn head_of(entry: &Entry<'_>) -> RequestHead
     ensures { result ≡ the_head_of entry.now }
 {

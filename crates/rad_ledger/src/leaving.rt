@@ -47,7 +47,6 @@ fn is_request(left: &Left<'_>, request: &PacketRef<'_>, client: Option<&Secret>)
         && is_right(request, client)
 }
 
-/// Whether a packet is right under the client's secret, if that is known.
 fn is_right(request: &PacketRef<'_>, client: Option<&Secret>) -> bool
     ensures { IsTrue result ↔ IfSome (option_copied client.entry) (λ secret. IsRightRequest secret request.now) }
 {

@@ -25,10 +25,6 @@ use std::alloc::{AllocError, Global};
 const GREATEST_SERIAL: u64 = 9_223_372_036_854_775_807;
 
 /// Writes the line of a parcel behind what these octets are.
-///
-/// # Errors
-///
-/// `AllocError` if memory is refused.
 pub(crate) fn line_of(
     alloc: Global,
     names: &RunNames,
@@ -45,10 +41,6 @@ pub(crate) fn line_of(
 }
 
 /// Writes the line of the parcel of the response of this serial behind what these octets are.
-///
-/// # Errors
-///
-/// `AllocError` if memory is refused.
 fn entry_line(
     alloc: Global,
     names: &RunNames,
@@ -71,10 +63,6 @@ fn entry_line(
 }
 
 /// Writes the line of the parcel of a request that is left behind what these octets are.
-///
-/// # Errors
-///
-/// `AllocError` if memory is refused.
 fn left_line(
     alloc: Global,
     names: &RunNames,
@@ -110,10 +98,6 @@ fn lent(text: &Option<String>) -> Option<&str>
 }
 
 /// Returns when a request was accepted, as a line has it, if it is known.
-///
-/// # Errors
-///
-/// `AllocError` if memory is refused.
 fn accepted_text(alloc: Global, time: Option<u64>) -> Result<Option<String>, AllocError>
     ensures { IfOk result (λ text. IsMomentIfAny time (option_map string_bytes text)) }
 {
@@ -144,10 +128,6 @@ fn left_of<'a>(
 }
 
 /// Returns a time in milliseconds since 1970, as a line has it.
-///
-/// # Errors
-///
-/// `AllocError` if memory is refused.
 fn time_text(alloc: Global, time: u64) -> Result<String, AllocError>
     ensures { IfOk result (λ text. IsMomentText time (string_bytes text)) }
 {
@@ -250,10 +230,6 @@ pub(crate) struct FileStart<'a> {
 
 /// Writes the line that begins a file behind what these octets are. It tells the serial of the next entry of each lane, by the
 /// progress of the lanes.
-///
-/// # Errors
-///
-/// `AllocError` if memory is refused.
 pub(crate) fn begin_line(
     alloc: Global,
     names: &RunNames,
@@ -310,10 +286,6 @@ fn file_before(found: Option<&FoundFile>) -> Option<FileBefore<'_>>
 }
 
 /// Returns the run's lanes, each with the serial of its next entry.
-///
-/// # Errors
-///
-/// `AllocError` if memory is refused.
 fn lane_starts<'a>(
     alloc: Global,
     names: &'a RunNames,
@@ -336,10 +308,6 @@ fn lane_starts<'a>(
 
 /// Returns the run's lanes, each with how many responses of it were taken, and, once that was told, how many requests it
 /// accepted and how many of them are left.
-///
-/// # Errors
-///
-/// `AllocError` if memory is refused.
 fn lane_counts(
     alloc: Global,
     names: &RunNames,
@@ -372,7 +340,6 @@ fn count_of(lane: usize, entries: u64, end: Option<(u64, u64)>) -> LaneCount
     }
 }
 
-/// Returns a lane's number, as a line has it.
 fn number_of(lane: usize) -> u16
     ensures { result ≡ lane_number lane }
 {
@@ -391,10 +358,6 @@ fn serial_at(progress: &[LaneProgress], is_gone: bool, lane: usize) -> u64
 }
 
 /// Writes the line that ends the run behind what these octets are. This is the sum of the lines before it.
-///
-/// # Errors
-///
-/// `AllocError` if memory is refused.
 pub(crate) fn end_line(
     alloc: Global,
     names: &RunNames,

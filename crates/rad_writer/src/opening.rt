@@ -118,10 +118,6 @@ struct Shared {
 }
 
 /// Makes the two ends of the buffer: of a ring of packets, and of a ring of their heads.
-///
-/// # Errors
-///
-/// `AllocError` if memory is refused.
 fn open_buffer(alloc: Global, shared: &Shared) -> Result<(ParcelGiver, EntryBuffer), AllocError>
     ensures { IfOk result (λ ends. HasRoom 67108864 180000 ends.0) }
 {
@@ -133,10 +129,6 @@ fn open_buffer(alloc: Global, shared: &Shared) -> Result<(ParcelGiver, EntryBuff
 }
 
 /// Makes what the front puts into this end of the buffer.
-///
-/// # Errors
-///
-/// `AllocError` if memory is refused.
 fn open_inlet<'a, R: Clock>(
     rt: &'a R,
     giver: ParcelGiver,
@@ -162,10 +154,6 @@ fn open_inlet<'a, R: Clock>(
 }
 
 /// Makes what the writer's lines come from, over this end of the buffer.
-///
-/// # Errors
-///
-/// `AllocError` if memory is refused.
 fn open_source(
     alloc: Global,
     run: u64,
@@ -190,10 +178,6 @@ fn open_source(
 }
 
 /// Makes the progress of each of so many lanes: nothing is written yet.
-///
-/// # Errors
-///
-/// `AllocError` if memory is refused.
 fn no_progress(alloc: Global, lanes: usize) -> Result<Vec<LaneProgress>, AllocError>
     ensures { IfOk result (λ progress. vec_len progress ≡ lanes) }
 {
@@ -203,10 +187,6 @@ fn no_progress(alloc: Global, lanes: usize) -> Result<Vec<LaneProgress>, AllocEr
 }
 
 /// Makes what each of so many clients put into the buffer: nothing yet.
-///
-/// # Errors
-///
-/// `AllocError` if memory is refused.
 fn no_puts(alloc: Global, clients: usize) -> Result<Vec<Taking>, AllocError>
     ensures { IfOk result (λ puts. vec_len puts ≡ clients) }
 {

@@ -534,7 +534,6 @@ fn words_of(sum: [u8; SUM_OCTETS]) -> [u64; 4]
     ]
 }
 
-/// Returns the number that the eight octets from a place on are.
 fn word_at(sum: &[u8; SUM_OCTETS], place: usize) -> u64
     requires { place ≤ 24 }
     ensures { result ≡ from_be_bytes w64 (slice_range sum.now place (place + 8)) }
@@ -544,7 +543,6 @@ fn word_at(sum: &[u8; SUM_OCTETS], place: usize) -> u64
     u64::from_be_bytes(octets)
 }
 
-/// Returns the fault of the ledger that a fault of its disk is.
 fn ledger_fault(fault: DiskFault) -> LedgerFault {
     match fault {
         DiskFault::Gone => LedgerFault::Gone,
