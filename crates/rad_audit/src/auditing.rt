@@ -214,11 +214,11 @@ impl<'a, W: Write> Audit<'a, W> {
         let line = self.line.as_slice();
         let taken = match read_line(alloc, line, &mut self.room) {
             Ok(Line::Entry(entry)) => {
-                pass_line(runs, sums, entry.run, line);
+                pass_line(runs, sums, entry.about.run, line);
                 count_entry(alloc, config, runs, report, place, &entry)
             }
             Ok(Line::Left(left)) => {
-                pass_line(runs, sums, left.run, line);
+                pass_line(runs, sums, left.about.run, line);
                 count_left(config, runs, report, place, &left)
             }
             Ok(Line::Begin(begin)) => {
@@ -370,10 +370,10 @@ fn count_entry<W: Write>(
 ) -> Result<(), Fault>
     requires { entry.now.serial < 2 ^ 63 }
 {
-    let home = secret_of_home(config, entry.home);
-    let client = secret_of_client(config, entry.client);
-    let lane = match runs.lane(entry.run, entry.lane) {
-        Some(lane) if lane.home.as_str() == entry.home => lane,
+    let home = secret_of_home(config, entry.about.home);
+    let client = secret_of_client(config, entry.about.client);
+    let lane = match runs.lane(entry.about.run, entry.about.lane) {
+        Some(lane) if lane.home.as_str() == entry.about.home => lane,
         _ => {
             let reason = judge_stray(alloc, entry, home, client)?;
             return report.tell(Finding::Wrong(place, reason));
@@ -384,12 +384,12 @@ fn count_entry<W: Write>(
         Taken::Wrong(reason) => report.tell(Finding::Wrong(place, reason)),
         Taken::Counted(gap) => {
             lane.ending.go_on();
-            lane.times.take(moment_of(entry.time));
+            lane.times.take(moment_of(entry.about.time));
             if home.is_none() || client.is_none() {
                 lane.not_judged = lane.not_judged.saturating_add(1);
             }
             if let Some(gap) = gap {
-                let name = LaneName::of(entry.run, lane);
+                let name = LaneName::of(entry.about.run, lane);
                 report.tell(Finding::Gap(place, name, gap))?;
             }
             report.row(place, entry)
@@ -404,9 +404,9 @@ fn count_left<W: Write>(
     place: Place<'_>,
     left: &Left<'_>,
 ) -> Result<(), Fault> {
-    let client = secret_of_client(config, left.client);
-    let lane = match runs.lane(left.run, left.lane) {
-        Some(lane) if lane.home.as_str() == left.home => lane,
+    let client = secret_of_client(config, left.about.client);
+    let lane = match runs.lane(left.about.run, left.about.lane) {
+        Some(lane) if lane.home.as_str() == left.about.home => lane,
         _ => {
             let reason = judge_stray_left(left, client);
             return report.tell(Finding::Wrong(place, reason));

@@ -2,12 +2,12 @@
 
 ghost use Rattle.std.specs.Prelude.{◌≡◌, MatchOption};
 ghost use Rattle.rad_packet.specs.Packet.{IsPacketText};
-ghost use Rattle.rad_audit.specs.Rows.{row_of, row_of_left, name_of, name_of_left, name_words, words_of};
+ghost use Rattle.rad_audit.specs.Rows.{row_of, row_of_left, name_of, name_words, words_of};
 
 use crate::cells::{Cell, NumberCell};
 use crate::facts::Facts;
 use crate::printing::Place;
-use rad_ledger::{Entry, Left, LeftState, whole_packet};
+use rad_ledger::{Entry, Left, LeftState, LineRequest, whole_packet};
 use rad_realms::AddressText;
 use std::fmt;
 
@@ -57,8 +57,8 @@ impl<'a> Row<'a> {
         let response = whole_packet(entry.response)?;
         Some(Row {
             place,
-            name: RecordName::of_entry(entry),
-            facts: Facts::of(response.identifier(), entry.home, &sent),
+            name: RecordName::of(&entry.about, Some(entry.serial)),
+            facts: Facts::of(response.identifier(), entry.about.home, &sent),
             state: State::Answered,
         })
     }
@@ -70,39 +70,25 @@ impl<'a> Row<'a> {
         let request = whole_packet(left.request)?;
         Some(Row {
             place,
-            name: RecordName::of_left(left),
-            facts: Facts::of(left.identifier, left.home, &request),
+            name: RecordName::of(&left.about, None),
+            facts: Facts::of(left.about.identifier, left.about.home, &request),
             state: State::Left(left.state),
         })
     }
 }
 
 impl<'a> RecordName<'a> {
-    fn of_left(left: &Left<'a>) -> RecordName<'a>
-        ensures { name_words result ≡ name_of_left left.now }
+    fn of(about: &LineRequest<'a>, serial: Option<u64>) -> RecordName<'a>
+        ensures { name_words result ≡ name_of about.now serial }
     {
         RecordName {
-            run: left.run,
-            lane: left.lane,
-            serial: None,
-            number: left.number,
-            time: left.time,
-            client: left.client,
-            port: left.port,
-        }
-    }
-
-    fn of_entry(entry: &Entry<'a>) -> RecordName<'a>
-        ensures { name_words result ≡ name_of entry.now }
-    {
-        RecordName {
-            run: entry.run,
-            lane: entry.lane,
-            serial: Some(entry.serial),
-            number: entry.number,
-            time: entry.time,
-            client: entry.client,
-            port: entry.port,
+            run: about.run,
+            lane: about.lane,
+            serial,
+            number: about.number,
+            time: about.time,
+            client: about.client,
+            port: about.port,
         }
     }
 }
