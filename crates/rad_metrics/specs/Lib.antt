@@ -6,5 +6,6 @@ pub mod Samples
 pub mod Times
 pub mod Events
 pub mod Metrics
+pub mod Rows
 pub mod LedgerFaults
 pub mod LedgerLines

@@ -32,8 +32,8 @@ impl Counts {
     pub fn new(alloc: Global, lanes: usize, clients: usize) -> Result<Counts, AllocError> {
         let mut firsts = Vec::new(alloc);
         let mut width = APART;
-        for metric in METRICS {
-            if let Metric::Counted(metric) = *metric {
+        for row in METRICS {
+            if let Metric::Counted(metric) = row.metric {
                 firsts.push(width)?;
                 width = width.saturating_add(metric.width());
             }
