@@ -47,7 +47,7 @@ mod writing;
 pub use counted::Counted;
 pub use counts::Counts;
 pub use draft::Draft;
-pub use event::{Event, report_peer, report_row, worker_row};
+pub use event::{Classified, Event, worker_row};
 pub use family::{Family, Kind};
 pub use file_sums::FileSum;
 pub use home_metric::{HomeMetric, Reading};

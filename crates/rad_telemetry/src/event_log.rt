@@ -4,9 +4,9 @@ use crate::lines::{ClientText, CutLine, PeerText, UpLine};
 use crate::packet_words::{DatagramWords, KeyWord, WordsOf};
 use crate::tracer::{Tracer, subject_of_packet};
 use crate::workers::worker_name;
-use rad_desk::{Origin, Session, Spent, Worker, WorkerReport};
+use rad_desk::{Origin, Session, Spent, WorkerReport};
 use rad_log::{Level, Log, logs_at, tell};
-use rad_metrics::{Numbers, Reason, report_row};
+use rad_metrics::{Classified, Numbers, Reason};
 use rad_realms::{Config, Endpoint};
 use std::fmt::{self, Display};
 
@@ -81,24 +81,19 @@ impl<L: Log> EventLog<'_, L> {
     }
 
     /// Logs what a worker reports, if it is logged at once.
-    pub(crate) fn report<R>(
-        &self,
-        worker: Worker,
-        report: &WorkerReport<'_>,
-        numbers: &Numbers<'_, R>,
-    ) {
-        match self.tracer.find(worker, report) {
+    pub(crate) fn report<R>(&self, its: &Classified<'_>, numbers: &Numbers<'_, R>) {
+        match self.tracer.find(its.worker, its.report) {
             Some(place) => {
-                let now = numbers.turn_of(worker);
-                self.traced(place, now).report_at_once(worker, report);
+                let now = numbers.turn_of(its.worker);
+                self.traced(place, now).report_at_once(its);
             }
-            None => self.report_at_once(worker, report),
+            None => self.report_at_once(its),
         }
     }
 
-    fn report_at_once(&self, worker: Worker, report: &WorkerReport<'_>) {
-        let name = worker_name(self.config, report_row(worker, report));
-        match *report {
+    fn report_at_once(&self, its: &Classified<'_>) {
+        let name = worker_name(self.config, its.row);
+        match *its.report {
             WorkerReport::Received { from, octets } => self.passed("came", name, from, octets),
             WorkerReport::Sends { to, octets, .. } => self.passed("went", name, to, octets),
             WorkerReport::Accepted { number, octets, .. } => {
@@ -134,7 +129,7 @@ impl<L: Log> EventLog<'_, L> {
             WorkerReport::WentUp(reason) => {
                 self.tell(Level::Info, &UpLine { home: name, reason });
             }
-            _ => self.failed(name, report),
+            _ => self.failed(name, its.report),
         }
     }
 

@@ -5,9 +5,9 @@ ghost use Rattle.std.specs.Prelude.{◌≡◌, ◌-◌};
 use crate::last_realm::LastRealm;
 use crate::lines::{Sum, SumLine};
 use crate::workers::worker_name;
-use rad_desk::{Worker, WorkerReport};
+use rad_desk::WorkerReport;
 use rad_log::{Level, Log, tell};
-use rad_metrics::{Counted, Counts, Event, Reason, report_peer, report_row};
+use rad_metrics::{Classified, Counted, Counts, Event, Reason};
 use rad_realms::{Config, Dropped, Endpoint};
 use std::alloc::{AllocError, Global};
 use std::sync::atomic::Ordering;
@@ -53,15 +53,14 @@ impl Sums {
     }
 
     /// Keeps what the next sum needs of a report, which is counted after this.
-    pub(crate) fn keep(&self, worker: Worker, report: &WorkerReport<'_>) {
-        let (Some(event), Some(peer)) = (Event::of(report), report_peer(report)) else {
+    pub(crate) fn keep(&self, its: &Classified<'_>) {
+        let (Some(event), Some(peer)) = (its.event, its.peer) else {
             return;
         };
-        let row = report_row(worker, report);
-        self.peers.swap(row, event, word_of(peer));
-        match *report {
+        self.peers.swap(its.row, event, word_of(peer));
+        match *its.report {
             WorkerReport::Marked { marks, .. } => {
-                if let Some(most) = self.marks.word(row, event) {
+                if let Some(most) = self.marks.word(its.row, event) {
                     most.fetch_max(marks, Ordering::SeqCst);
                 }
             }
