@@ -7,5 +7,3 @@ pub mod Times
 pub mod Events
 pub mod Metrics
 pub mod Rows
-pub mod LedgerFaults
-pub mod LedgerLines

@@ -3,7 +3,8 @@
 //!
 //! [`Numbers`] keeps what the workers report. The metrics of one home server are taken under one hold of its lane's
 //! lock, by the lane's worker, when it is asked for them. All labels come from the configuration, from the program and
-//! from its sockets, whoever sends. [`LedgerState`] keeps what the thread that writes the ledger reports, and logs it.
+//! from its sockets, whoever sends. What is counted of the ledger is
+//! in `ledger_state`.
 //!
 //! What is counted is an [`Event`]: the metric that counts it, [`Counted`], and a [`Reason`], whose place and name are
 //! those of the enum of reasons that it has. A new reason is added there alone.
@@ -13,8 +14,7 @@
 //! is counted, and which text the metrics of the ledger have. No contract covers what is behind a lock or in an atomic,
 //! such as a count: tests check it. The definitions are in `specs`: `Rows` has what holds of the list, `Metrics` the
 //! values that are read, `Families`, `Samples` and `Values` how metrics are printed, `Reasons` the places and names of
-//! reasons, `Events` which events are counted, `LedgerFaults` the reasons for which the ledger is not written,
-//! `LedgerLines` its log lines, and `Buckets` the bounds of a histogram.
+//! reasons, `Events` which events are counted, and `Buckets` the bounds of a histogram.
 #![tactic(auto)]
 
 mod counted;
@@ -22,16 +22,12 @@ mod counts;
 mod draft;
 mod event;
 mod family;
-mod file_sums;
 mod histogram;
 mod home_cells;
 mod home_metric;
 mod home_times;
-mod lane_serials;
 mod laws;
-mod ledger_fault;
 mod ledger_metrics;
-mod ledger_state;
 mod metric;
 mod numbers;
 mod own_process;
@@ -49,12 +45,9 @@ pub use counts::Counts;
 pub use draft::Draft;
 pub use event::{Classified, Event, worker_row};
 pub use family::{Family, Kind};
-pub use file_sums::FileSum;
 pub use home_metric::{HomeMetric, Reading};
 pub use laws::metrics_are_told_apart;
-pub use ledger_fault::{LedgerFault, system_number};
-pub use ledger_metrics::{LedgerMetric, LedgerReading};
-pub use ledger_state::{LedgerState, log_ledger_fault};
+pub use ledger_metrics::LedgerMetric;
 pub use metric::{METRICS, Metric, Row};
 pub use numbers::{Numbers, time_since_1970};
 pub use own_process::ProcessReading;

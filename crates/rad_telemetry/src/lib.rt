@@ -30,7 +30,6 @@ pub use counter_file::{
 };
 pub use left_log::LeftLog;
 pub use packet_words::PacketWords;
-pub use rad_metrics::{FileSum, LedgerFault, LedgerState, log_ledger_fault, system_number};
 pub use reporter::{Reporter, StopFlag, report};
 pub use telemetry::Telemetry;
 pub use trace_file::{TraceFault, TraceText, find_trace_file, read_trace_text};

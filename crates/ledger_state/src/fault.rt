@@ -1,7 +1,7 @@
 //! Why the ledger is not written.
 
 ghost use Rattle.std.specs.Prelude.{◌≡◌, ◌<◌, Some};
-ghost use Rattle.rad_metrics.specs.LedgerFaults.{fault_number, fault_of_number, fault_step, number_of_code, number_of_system};
+ghost use Rattle.ledger_state.specs.Faults.{fault_number, fault_of_number, fault_step, number_of_code, number_of_system};
 ghost use Rattle.std.specs.IoError.{raw_os_error};
 
 use std::fmt::{self, Display};
@@ -102,7 +102,7 @@ pub fn system_number(error: &Error) -> u32
 }
 
 impl Display for LedgerFault {
-    ghost use Rattle.rad_metrics.specs.LedgerFaults.{fault_text};
+    ghost use Rattle.ledger_state.specs.Faults.{fault_text};
 
     ghost output = { λ fault. fault_text fault };
 

@@ -25,7 +25,7 @@ pub struct FileSum {
 
 impl fmt::Display for FileSum {
     ghost use Rattle.std.specs.Prelude.{Some};
-    ghost use Rattle.rad_metrics.specs.LedgerLines.{sum_text};
+    ghost use Rattle.ledger_state.specs.LogLines.{sum_text};
 
     ghost output = { λ its. Some (sum_text its) };
 
@@ -56,7 +56,7 @@ struct Word {
 
 impl fmt::Display for Word {
     ghost use Rattle.std.specs.Prelude.{Some};
-    ghost use Rattle.rad_metrics.specs.LedgerLines.{word_text};
+    ghost use Rattle.ledger_state.specs.LogLines.{word_text};
 
     ghost output = { λ word. Some (word_text word.value) };
 

@@ -1,16 +1,33 @@
-//! What the thread that writes the ledger shares with the front and with the reporter, and the log lines of the ledger.
+//! What the thread that writes the ledger shares with the front and with the reporter.
 
-use crate::counts::atomics;
+use crate::fault::LedgerFault;
 use crate::file_sums::{FileSum, FileSums};
 use crate::lane_serials::{LaneSerials, LostSerials};
-use crate::ledger_fault::LedgerFault;
-use crate::ledger_metrics::LedgerReading;
+use crate::log_lines::{LedgerLine, log_ledger_fault};
 use rad_log::{Level, Log, WriterState, tell};
 use std::alloc::{AllocError, Global};
-use std::fmt;
 use std::sync::atomic::{AtomicU64, Ordering};
 use std::sync::{OnceLock, Wait};
 use std::time::{Clock, Duration, Instant};
+
+/// What is known of a ledger at one moment.
+#[derive(Clone, Copy)]
+pub struct LedgerReading<'a> {
+    /// How many entries were written.
+    pub written: u64,
+    /// How many entries wait to be written.
+    pub waiting: u64,
+    /// How many entries were dropped, since too many waited.
+    pub dropped: u64,
+    /// How many entries were written to a file that was gone while it was open.
+    pub lost: u64,
+    /// How many milliseconds ago the oldest entry was handed over that waits.
+    pub age: u64,
+    /// How many milliseconds ago the oldest octet was written that is not synced.
+    pub unsynced: u64,
+    /// How many entries of each client were dropped, in the order of the configuration.
+    pub client_dropped: &'a [AtomicU64],
+}
 
 /// The counts of a ledger's entries, what went wrong, and the state of the thread that writes them. No call of the
 /// front waits.
@@ -60,7 +77,10 @@ impl LedgerState {
     ///
     /// `AllocError` if memory is refused.
     pub fn new(alloc: Global, lanes: usize, clients: usize) -> Result<LedgerState, AllocError> {
-        let client_dropped = atomics(alloc, clients, 0)?;
+        let mut client_dropped = Vec::with_capacity(alloc, clients)?;
+        for _ in 0..clients {
+            client_dropped.push(AtomicU64::new(0))?;
+        }
         let lanes = LaneSerials::of_lanes(alloc, lanes)?;
         let sums = FileSums::new(alloc)?;
         Ok(LedgerState {
@@ -309,59 +329,5 @@ fn age_of(moment: &AtomicU64, now: u64) -> u64 {
     match moment.load(Ordering::SeqCst) {
         0 => 0,
         moment => now.saturating_sub(moment),
-    }
-}
-
-/// Logs that the ledger is not written, and why.
-pub fn log_ledger_fault<L: Log>(log: &L, fault: LedgerFault) {
-    tell(log, Level::Error, &LedgerLine::Fault(fault));
-}
-
-/// A log line of the ledger.
-#[derive(Clone, Copy)]
-pub enum LedgerLine {
-    /// Entries can't be written.
-    Fault(LedgerFault),
-    /// Entries are written again.
-    Back,
-    /// The sum of the run's lines.
-    File(FileSum),
-    /// Entries were written to a file that is gone: of this lane, so many, from this serial to that one.
-    Lost(u64, u64, u64, u64),
-    /// This many entries found no room.
-    Dropped(u64),
-    /// This many entries are not written at the end.
-    Left(u64),
-    /// This many entries are not written at the end, and this many lines of requests that are left.
-    Both(u64, u64),
-    /// The entries of this lane from this serial to that one are not written at the end.
-    Missing(u64, u64, u64),
-}
-
-impl fmt::Display for LedgerLine {
-    ghost use Rattle.rad_metrics.specs.LedgerLines.{ledger_line};
-
-    ghost output = { λ line. ledger_line line };
-
-    fn fmt<W: fmt::Write>(&self, f: &mut fmt::Formatter<W>) -> fmt::Result {
-        match *self {
-            LedgerLine::Fault(fault) => write!(f, "event=ledger-fault reason=\"{fault}\""),
-            LedgerLine::Back => f.write_str("event=ledger-back"),
-            LedgerLine::File(its) => write!(f, "event=ledger-file {its}"),
-            LedgerLine::Dropped(count) => write!(f, "event=ledger-dropped count={count}"),
-            LedgerLine::Lost(lane, count, from, to) => {
-                write!(
-                    f,
-                    "event=ledger-lost lane={lane} count={count} from={from} to={to}"
-                )
-            }
-            LedgerLine::Left(count) => write!(f, "event=ledger-left count={count}"),
-            LedgerLine::Both(count, left) => {
-                write!(f, "event=ledger-left count={count} left={left}")
-            }
-            LedgerLine::Missing(lane, from, to) => {
-                write!(f, "event=ledger-missing lane={lane} from={from} to={to}")
-            }
-        }
     }
 }

@@ -1,7 +1,7 @@
 -- Why the ledger is not written: its number, and its text in the log (own).
 use Rattle.std.specs.Prelude.{ℕ, ℤ, pos, int_lt, unsigned_abs, ◌+◌, ◌*◌, ◌/◌, ◌%◌, ◌==◌, if◌then◌else◌, List, codes, Option, Some, None}
-use Rattle.rad_metrics.specs.declared.ledger_fault.LedgerFault.{LedgerFault}
-use Rattle.rad_metrics.specs.declared.ledger_fault.LedgerFault.TheVariants.{NoText, Memory, Gone, Create, Write, Sync, Parted}
+use Rattle.ledger_state.specs.declared.fault.LedgerFault.{LedgerFault}
+use Rattle.ledger_state.specs.declared.fault.LedgerFault.TheVariants.{NoText, Memory, Gone, Create, Write, Sync, Parted}
 
 -- The number of values of a system's number.
 abbrev pub numbers : ℕ

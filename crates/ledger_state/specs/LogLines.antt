@@ -1,10 +1,10 @@
 -- The log lines of the ledger, without their line feeds (own).
 use Rattle.std.specs.Prelude.{ℕ, ◌^◌, ◌-◌, false, List, [], ◌++◌, codes, slice_index, Option, Some, None}
 use Rattle.std.specs.Fmt.{decimal, digits, format_spec, padded_integral}
-use Rattle.rad_metrics.specs.LedgerFaults.{fault_text}
-use Rattle.rad_metrics.specs.declared.file_sums.FileSum.{FileSum}
-use Rattle.rad_metrics.specs.declared.ledger_state.LedgerLine.{LedgerLine}
-use Rattle.rad_metrics.specs.declared.ledger_state.LedgerLine.TheVariants as line
+use Rattle.ledger_state.specs.Faults.{fault_text}
+use Rattle.ledger_state.specs.declared.file_sums.FileSum.{FileSum}
+use Rattle.ledger_state.specs.declared.log_lines.LedgerLine.{LedgerLine}
+use Rattle.ledger_state.specs.declared.log_lines.LedgerLine.TheVariants as line
 
 -- The line of a fault whose text is known.
 abbrev pub fault_line : Option (List ℕ) → Option (List ℕ)
