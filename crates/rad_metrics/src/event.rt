@@ -54,7 +54,6 @@ impl Event {
         Event { metric, reason }
     }
 
-    /// Returns the event as which a report is counted for a worker.
     fn of(report: &Report<'_>) -> Option<Event>
         ensures { result ≡ event_of report.now }
     {
@@ -97,7 +96,6 @@ impl Event {
     }
 }
 
-/// Returns the metric that counts a datagram to a home server, by its Code.
 fn sent_as(code: Option<u8>) -> Option<Counted>
     ensures { result ≡ sent_metric code }
 {
@@ -124,8 +122,6 @@ fn peer_of_report(report: &Report<'_>) -> Option<Endpoint>
     }
 }
 
-/// Returns the row of the worker or lane that a report is about: the worker's, or that of the lane that the front accepted
-/// a request for, took a response from, or has a marked request for.
 fn row_of_report(worker: Worker, report: &Report<'_>) -> usize
     ensures { result ≡ row_of worker report.now }
 {

@@ -24,7 +24,6 @@ pub enum LedgerMetric {
     Unsynced,
 }
 
-/// The lines of a metric of the ledger, with what precedes its sample, if there is a ledger.
 #[derive(Clone, Copy)]
 struct MetricLines<'a>(Family, LedgerMetric, Option<LedgerReading<'a>>);
 

@@ -32,7 +32,6 @@ pub struct Numbers<'a, R> {
     started: u64,
     /// The same by what the clock of the day shows now, if that was set since.
     set: AtomicU64,
-    /// The row of each client's address.
     clients: BTreeMap<[u8; 4], usize>,
     counts: Counts,
     /// The number of datagrams that came from senders that are not clients.
@@ -162,12 +161,10 @@ impl<R> Numbers<'_, R> {
         self.turn(worker_row(worker))
     }
 
-    /// Returns when the turn of the worker in a row began.
     fn turn(&self, row: usize) -> u64 {
         word_or_0(self.turn_word(row))
     }
 
-    /// Counts the event of a report for the worker or lane that it is about.
     fn count(&self, its: &Classified<'_>) {
         if let Some(event) = its.event {
             let times = match *its.report {
@@ -211,8 +208,6 @@ impl<R> Numbers<'_, R> {
     }
 }
 
-/// Returns when the program started by a clock that shows `now` after so long, all in milliseconds, if that is more than a
-/// second from `before`, when it started until now.
 fn set_start(before: u64, now: u64, passed: u64) -> u64
     ensures { IsStartBy before now passed result }
 {
@@ -224,11 +219,6 @@ fn set_start(before: u64, now: u64, passed: u64) -> u64
     }
 }
 
-/// Returns the row of each client's address.
-///
-/// # Errors
-///
-/// `AllocError` if memory is refused.
 fn rows_of(alloc: Global, config: &Config) -> Result<BTreeMap<[u8; 4], usize>, AllocError> {
     let mut rows = BTreeMap::new(alloc);
     for (row, client) in config.clients().iter().enumerate() {

@@ -43,7 +43,6 @@ struct Adding<'a> {
 }
 
 impl Adding<'_> {
-    /// Adds what precedes the samples.
     fn begin(&mut self) -> io::Result<()> {
         let family = self.family;
         write!(self.text, "{family}")
@@ -65,7 +64,6 @@ impl Adding<'_> {
         write!(self.text, "{sample}")
     }
 
-    /// Adds a sample.
     fn add(&mut self, labels: Labels<'_>, value: Value) -> io::Result<()> {
         self.add_part("", labels, value)
     }
@@ -99,7 +97,6 @@ fn write_metric(text: &mut Vec<u8>, row: &Row, known: &Known<'_>) -> io::Result<
     }
 }
 
-/// Writes a metric of the program.
 fn write_program(
     to: &mut Adding<'_>,
     metric: ProgramMetric,
@@ -183,7 +180,6 @@ fn write_homes(to: &mut Adding<'_>, metric: HomeMetric, known: &Known<'_>) -> io
     Ok(())
 }
 
-/// Writes a histogram of each home server.
 fn write_times(to: &mut Adding<'_>, timed: Timed, known: &Known<'_>) -> io::Result<()> {
     to.begin()?;
     for (lane, (home, cell)) in known.homes.iter().zip(known.cells).enumerate() {

@@ -46,21 +46,14 @@ impl<'a, L> EventLog<'a, L> {
 
     /// Returns a copy.
     pub(crate) fn copy(&self) -> EventLog<'a, L> {
-        EventLog {
-            log: self.log,
-            config: self.config,
-            tracer: self.tracer,
-            trace: self.trace,
-        }
+        EventLog { ..*self }
     }
 
     /// Returns the log of lines about what is traced under a number, at this moment in microseconds since the program started.
     fn traced(&self, place: usize, now: u64) -> EventLog<'a, L> {
         EventLog {
-            log: self.log,
-            config: self.config,
-            tracer: self.tracer,
             trace: Some(TracedNow { place, now }),
+            ..*self
         }
     }
 }
@@ -133,7 +126,6 @@ impl<L: Log> EventLog<'_, L> {
         }
     }
 
-    /// Logs that a lane's home server is marked down, since this request is unanswered.
     fn went_down(&self, home: &str, spent: &Spent) {
         let number = spent.number;
         let client = ClientText(spent.client);
@@ -145,7 +137,6 @@ impl<L: Log> EventLog<'_, L> {
         self.tell(Level::Warn, &line);
     }
 
-    /// Logs a drop, a refusal, a fault or a cut.
     fn failed(&self, name: &str, report: &WorkerReport<'_>) {
         match *report {
             WorkerReport::Dropped {
@@ -193,7 +184,6 @@ impl<L: Log> EventLog<'_, L> {
         }
     }
 
-    /// Logs a datagram that a worker received or is about to send.
     fn passed(&self, event: &str, name: &str, peer: Endpoint, octets: &[u8]) {
         let peer = PeerText(peer);
         let words = DatagramWords(octets);

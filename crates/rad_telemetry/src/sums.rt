@@ -27,7 +27,6 @@ const SUMMED: &[Counted] = &[
 /// What was summed up so far, and what the lines of the next sums need of the last event of each.
 #[derive(Drop)]
 pub struct Sums {
-    /// How many events were summed up.
     given: Counts,
     /// The other end of the last event: its address, followed by its port.
     peers: Counts,
@@ -140,14 +139,12 @@ fn level_of(sum: Sum) -> Level {
     }
 }
 
-/// Returns the word of an endpoint: its address, followed by its port.
 fn word_of(endpoint: Endpoint) -> u64 {
     let [a, b, c, d] = endpoint.address;
     let [high, low] = endpoint.port.to_be_bytes();
     u64::from_be_bytes([0, 0, a, b, c, d, high, low])
 }
 
-/// Returns the endpoint of a word.
 fn endpoint_of(word: u64) -> Endpoint {
     let [_, _, a, b, c, d, high, low] = word.to_be_bytes();
     Endpoint {
@@ -156,7 +153,6 @@ fn endpoint_of(word: u64) -> Endpoint {
     }
 }
 
-/// For the proof: returns how much a count rose.
 fn since(before: u64, now: u64) -> u64
     ensures { result ≡ now - before }
 {
