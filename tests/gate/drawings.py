@@ -202,7 +202,7 @@ PLACES = {
     "rad_telemetry": (2, 1), "rad_writer": (4, 1), "rad_audit": (5, 1),
     "config_json": (0, 2), "rad_server": (2, 2), "ledger_lines": (4, 2), "ledger_files": (5, 2),
     "rad_replay": (1, 3), "rad_addresses": (2, 3), "rad_metrics": (3, 3), "rad_ledger": (4, 3),
-    "rad_advice": (0, 4), "rad_console": (2, 4), "rad_simulation": (5, 4),
+    "rad_advice": (0, 4), "ledger_state": (1, 4), "rad_console": (2, 4), "rad_simulation": (5, 4),
     "rad_desk": (3, 5),
     "rad_log": (1, 6), "rad_locks": (3, 6), "rad_progress": (4, 6),
     "rad_lane": (3, 7),

@@ -75,8 +75,8 @@ NUMBERS = {
     "rad_metrics/src/home_times.rt": {
         "IDENTIFIERS": ("256", f"{LIMITS} the_widest_window_is_out_at_once"), "BESIDE": ("256", CHOICE), "SERIALS": ("1 << 23", CHOICE),
         "UNTOLD": ("u64::MAX", FORM), "NUMBERS": ("1 << 24", PROVED), "TIMES": ("1 << 40", PROVED)},
-    "rad_metrics/src/file_sums.rt": {"SUMS": ("16", CHOICE), "WORDS": ("4", PROVED)},
-    "rad_metrics/src/ledger_fault.rt": {"NUMBERS": ("1 << 32", CHOICE)},
+    "ledger_state/src/file_sums.rt": {"SUMS": ("16", CHOICE), "WORDS": ("4", PROVED)},
+    "ledger_state/src/fault.rt": {"NUMBERS": ("1 << 32", CHOICE)},
     "rad_metrics/src/numbers.rt": {"STEP": ("1000", "ledger/disk_faults a_clock_that_is_set_moves_the_times")},
     "rad_metrics/src/system_files.rt": {"MOST_OCTETS": ("1 << 22", CHOICE)},
     "rad_packet/src/datagram.rt": {"GREATEST_VALUE_LENGTH": ("253", PROVED)},

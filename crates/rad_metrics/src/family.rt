@@ -23,24 +23,11 @@ pub struct Family {
     pub help: &'static str,
 }
 
-/// The first line of a family: its help text.
 #[derive(Clone, Copy)]
 struct HelpLine(Family);
 
-/// The second line of a family: its kind.
 #[derive(Clone, Copy)]
 struct TypeLine(Family);
-
-/// Makes the family of a metric by a table, which has the kind, the name and the help text of each.
-macro_rules! families {
-    ($metric:expr; $($case:pat => $kind:ident($name:literal, $help:literal),)+) => {
-        match $metric {
-            $($case => Family { name: $name, kind: Kind::$kind, help: $help },)+
-        }
-    };
-}
-
-pub(crate) use families;
 
 impl fmt::Display for Kind {
     ghost use Rattle.std.specs.Prelude.{Some};
@@ -59,9 +46,9 @@ impl fmt::Display for Kind {
 
 impl fmt::Display for Family {
     ghost use Rattle.std.specs.Prelude.{Some};
-    ghost use Rattle.rad_metrics.specs.Families.{described_by, head_text};
+    ghost use Rattle.rad_metrics.specs.Families.{head_text};
 
-    ghost output = { λ family. Some (head_text (described_by family)) };
+    ghost output = { λ family. Some (head_text family) };
 
     fn fmt<W: fmt::Write>(&self, f: &mut fmt::Formatter<W>) -> fmt::Result {
         let help = HelpLine(*self);

@@ -1,11 +1,8 @@
 //! How long the requests of a home server take: when each was accepted and first sent, until it is answered.
 
 ghost use Rattle.std.specs.Prelude.{◌≡◌, ◌+◌, ◌*◌, ◌-◌, ◌/◌, ◌%◌, ◌^◌, ◌==◌, Some, None, if◌then◌else◌};
-ghost use Rattle.rad_metrics.specs.Families.{described_by};
-ghost use Rattle.rad_metrics.specs.Metrics.{timed_family};
 
 use crate::counts::{atomics, word_or_0};
-use crate::family::{Family, Kind, families};
 use crate::histogram::Histogram;
 use rad_realms::LimitNumbers;
 use rad_tables::Slot;
@@ -55,9 +52,7 @@ pub(crate) struct HomeTimes {
     /// For each serial that may be on its way to the client, at the remainder of its division by the length: what was
     /// first reported of it.
     leaving: Vec<AtomicU64>,
-    /// The times from the first sending to the reply.
     replies: Histogram,
-    /// The times from the acceptance to the response.
     responses: Histogram,
 }
 
@@ -149,19 +144,6 @@ impl HomeTimes {
     }
 }
 
-impl Timed {
-    /// Returns the name, the kind and the help text of the family, which precede its samples.
-    pub fn family(self) -> Family
-        ensures { described_by result ≡ timed_family self }
-    {
-        families! {
-            self;
-            Timed::Replies => Histogram("reply_seconds", "From the first sending of a request to the home server's reply."),
-            Timed::Responses => Histogram("response_seconds", "From the acceptance of a request to the response to the client."),
-        }
-    }
-}
-
 /// Returns the place of a number: the one at the remainder of its division by the number of places.
 fn place_by(places: &[AtomicU64], number: u64) -> Option<&AtomicU64> {
     let count = places.len() as u64;
@@ -181,21 +163,18 @@ fn store(places: &[AtomicU64], slot: Slot, time: u64) {
     }
 }
 
-/// Returns the index of a pair among all pairs of its lane.
 fn place_in(slot: Slot) -> usize
     ensures { result ≡ slot.port * 256 + slot.identifier }
 {
     usize::from(slot.port) * 256 + usize::from(slot.identifier)
 }
 
-/// Returns the word of a number and a time in microseconds.
 fn word_of(number: u64, time: u64) -> u64
     ensures { result ≡ number % 2 ^ 24 * 2 ^ 40 + time % 2 ^ 40 }
 {
     number % NUMBERS * TIMES + time % TIMES
 }
 
-/// Returns the time of a word, if the word has this number.
 fn time_in(word: u64, number: u64) -> Option<u64>
     ensures { result ≡ (if word / 2 ^ 40 == number % 2 ^ 24 then Some (word % 2 ^ 40) else None) }
 {

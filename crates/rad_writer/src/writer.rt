@@ -14,7 +14,8 @@ use ledger_files::{
     Batch, DiskFault, FileDay, FileName, FoundFile, LedgerDisk, LineHead, OpenFile, RunFiles,
     SUM_OCTETS, date_of, day_of, is_next_due,
 };
-use rad_metrics::{FileSum, LedgerFault, LedgerState, time_since_1970};
+use ledger_state::{FileSum, LedgerFault, LedgerState};
+use rad_metrics::time_since_1970;
 use std::alloc::{AllocError, Global};
 use std::marker::Sync;
 use std::sync::{Arc, Wait};
