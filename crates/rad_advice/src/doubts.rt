@@ -4,11 +4,12 @@ ghost use Rattle.std.specs.Prelude.{◌≡◌, ◌-◌, ◌<◌, ◌≤◌, ◌+
 ghost use Rattle.std.specs.List.{list_any};
 ghost use Rattle.std.specs.Str.{bytes_eq};
 ghost use Rattle.rad_realms.specs.Spot.{key_name};
-ghost use Rattle.rad_advice.specs.Keys.{BeginsAtPlace};
 ghost use Rattle.rad_advice.specs.Doubts.{about, example_secrets, is_control as controls, secret_doubt as doubt_of, secret_doubts, client_doubts, leads_nowhere as nothing_leads, is_unused as unused, is_shared as shared, is_default as is_default_lane, home_doubts, realm_doubt as doubt_of_realm, realm_doubts, each_doubt, doubts_in, doubtful_told, IsWarnedIn};
 
+use crate::config_text::ConfigText;
 use crate::finding::find_key;
-use crate::place::{AtText, Place, place_of};
+use crate::listed::{Listed, list_first};
+use crate::place::{AtText, Place};
 use crate::unread::TableText;
 use rad_realms::{Client, Config, Endpoint, Home, Key, Part, Realm, Spot};
 use std::alloc::{AllocError, Global};
@@ -116,60 +117,37 @@ impl fmt::Display for Warning {
     }
 }
 
-/// The first warnings about a configuration, and the number of the others.
-#[derive(Drop)]
-pub struct Warnings {
-    /// The first ones, at most 50.
-    listed: Vec<Warning>,
-    /// The number of the others.
-    more: usize,
-}
-
-impl Warnings {
-    /// Returns the first ones, at most 50: that nothing leads anywhere; then those about each client, each home server
-    /// and each realm.
-    pub fn listed(&self) -> &[Warning]
-        ensures { result.now ≡ self.now.listed.items }
-    {
-        self.listed.as_slice()
-    }
-
-    /// Returns the number of those that are not listed.
-    pub fn more(&self) -> usize
-        ensures { result ≡ self.now.more }
-    {
-        self.more
-    }
-}
-
-/// Returns the warnings about a configuration that was read from this text.
+/// Returns the first 50 warnings about a configuration that was read from this text: that nothing leads anywhere; then those
+/// about each client, each home server and each realm.
 ///
 /// # Errors
 ///
 /// If memory is refused.
-pub fn list_warnings(alloc: Global, config: &Config, text: &str) -> Result<Warnings, AllocError>
-    ensures first { IfOk result (λ warnings. map doubtful_told warnings.listed.items ≡ take 50 (doubts_in config.now)) }
+pub fn list_warnings(
+    alloc: Global,
+    config: &Config,
+    text: &ConfigText<'_>,
+) -> Result<Listed<Warning>, AllocError>
+    ensures first { IfOk result (λ warnings. map doubtful_told warnings.first.items ≡ take 50 (doubts_in config.now)) }
     ensures more { IfOk result (λ warnings. warnings.more ≡ length (doubts_in config.now) - 50) }
-    ensures places { IfOk result (λ warnings. All (IsWarnedIn text.now) warnings.listed.items) }
+    ensures places { IfOk result (λ warnings. All (IsWarnedIn text.now) warnings.first.items) }
 {
     let doubts = list_doubts(alloc, config)?;
-    warn_first(alloc, text, doubts.as_slice())
+    warn_first(alloc, text.as_str(), doubts.as_slice())
 }
 
 /// Warns of the first of these doubts.
-fn warn_first(alloc: Global, text: &str, doubts: &[Doubtful]) -> Result<Warnings, AllocError>
-    ensures first { IfOk result (λ warnings. map doubtful_told warnings.listed.items ≡ take 50 doubts.now) }
+fn warn_first(alloc: Global, text: &str, doubts: &[Doubtful]) -> Result<Listed<Warning>, AllocError>
+    ensures first { IfOk result (λ warnings. map doubtful_told warnings.first.items ≡ take 50 doubts.now) }
     ensures more { IfOk result (λ warnings. warnings.more ≡ length doubts.now - 50) }
-    ensures places { IfOk result (λ warnings. All (IsWarnedIn text.now) warnings.listed.items) }
+    ensures places { IfOk result (λ warnings. All (IsWarnedIn text.now) warnings.first.items) }
 {
-    let count = doubts.len().min(MOST_LISTED);
-    let mut listed = Vec::new(alloc);
-    for doubtful in &doubts[..count] {
-        let warning = warning_of(alloc, text, *doubtful)?;
-        listed.push(warning)?;
-    }
-    let more = doubts.len() - count;
-    Ok(Warnings { listed, more })
+    list_first(
+        alloc,
+        doubts,
+        MOST_LISTED,
+        |doubtful| warning_of(alloc, text, doubtful),
+    )
 }
 
 /// Returns the warning of a doubt.
@@ -178,10 +156,7 @@ fn warning_of(alloc: Global, text: &str, doubtful: Doubtful) -> Result<Warning, 
     ensures place { IfOk result (λ warning. IsWarnedIn text.now warning) }
 {
     let Spot { part, index, key } = doubtful.spot;
-    let place = match find_key(alloc, text, part, index, key.name())? {
-        Some(offset) => Some(place_of(text.as_bytes(), offset)),
-        None => None,
-    };
+    let place = find_key(alloc, text, part, index, key.name())?;
     Ok(Warning { doubtful, place })
 }
 

@@ -23,14 +23,14 @@ mod wording;
 mod words;
 
 ghost use Rattle.std.specs.Prelude.{◌≡◌, ◌≤◌, ℕ, List, length, IfErr, IfOk, Ok};
-ghost use Rattle.rad_console.specs.Configurations.{ReadsOctets};
+ghost use Rattle.rad_files.specs.Configurations.{ReadsOctets};
 ghost use Rattle.rad_audit.specs.Statuses.{status_at, status_of};
 ghost use Rattle.rad_audit.specs.declared.printing.Findings.{Findings as TheFindings};
 
 use auditing::audit_files;
 use faults::Fault;
 use printing::{NO_FINDINGS, Outputs};
-use rad_console::{read_at_most, read_configuration};
+use rad_files::{read_at_most, read_configuration};
 use rad_realms::Config;
 use std::alloc::{AllocGlobal, Global};
 use std::env::{self, Env};

@@ -5,7 +5,8 @@ ghost use Rattle.rad_replay.specs.Replaying.{IsEnd};
 
 use crate::faults::ReplayFault;
 use crate::script::Script;
-use rad_console::{EndLine, Pieces, read_at_most, read_configuration};
+use rad_console::{EndLine, Pieces};
+use rad_files::{read_at_most, read_configuration};
 use rad_realms::{Config, ConfigFault};
 use std::alloc::{AllocError, Global};
 use std::io::{BufWriter, ErrorKind, Read, Write};

@@ -1,8 +1,8 @@
 //! Reading configurations from octets.
 
-ghost use Rattle.rad_console.specs.Configurations.{ReadsOctets};
+ghost use Rattle.rad_files.specs.Configurations.{ReadsOctets};
 
-use rad_realms::{Config, ConfigFault, read_config};
+use rad_config::{Config, ConfigFault, read_config};
 use std::alloc::Global;
 
 /// Reads a configuration from the octets of its text.

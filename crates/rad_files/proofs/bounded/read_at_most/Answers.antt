@@ -1,7 +1,7 @@
 use Rattle.std.proofs.Common.{◌≡◌, ℕ, ◌+◌, ◌≤◌, List, [], ◌++◌, length, take, Option, Some, None, IfSome, ap, subst, ◌∙◌, arith}
 use Rattle.std.specs.Option.{option_map}
 use Rattle.std.proofs.lemmas.List.{length-take, take_all}
-use Rattle.rad_console.proofs.bounded.read_at_most.Goals as goal
+use Rattle.rad_files.proofs.bounded.read_at_most.Goals as goal
 
 -- what is no longer than the most was not cut
 whole_below : (given : Option (List ℕ)) (start octets : List ℕ) (limit most : ℕ) → limit ≡ most + 1 → start ≡ []
