@@ -2,5 +2,4 @@ pub mod Closing
 pub mod Commands
 pub mod Lanes
 pub mod Lines
-pub mod Pieces
 pub mod Totals

@@ -6,7 +6,7 @@
 //! each request that is left too.
 //!
 //! The definitions that the contracts cite are in specs: `Closing` is what an end line has, `Commands` which command a
-//! line is, `Pieces` how a text is cut, and `Lanes` and `Lines` how the lines are printed.
+//! line is, and `Lanes` and `Lines` how the lines are printed.
 #![tactic(auto)]
 
 mod closing;
@@ -14,11 +14,9 @@ mod commands;
 mod console;
 mod lanes;
 mod lines;
-mod pieces;
 
 pub use closing::{close, close_with};
-pub use commands::{Command, Commands};
+pub use commands::{Command, Commands, find_first};
 pub use console::obey;
 pub use lanes::{DrainLine, StateLine};
 pub use lines::{CountLine, EndLine, ListeningLine};
-pub use pieces::Pieces;

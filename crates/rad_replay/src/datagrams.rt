@@ -5,7 +5,7 @@ ghost use Rattle.rad_replay.specs.Hex.{octets_of};
 
 use crate::hex::Hex;
 use crate::numbers::{next_u8, next_usize, next_word};
-use rad_console::Pieces;
+use crate::pieces::Pieces;
 
 /// How a datagram is made.
 #[derive(Clone, Copy)]

@@ -2,7 +2,8 @@
 
 use crate::datagrams::{Packet, Template, parse_packet};
 use crate::numbers::{next_address, next_u16, next_usize, next_word};
-use rad_console::{Command, Pieces};
+use crate::pieces::Pieces;
+use rad_console::Command;
 
 /// An event that happens to the proxy.
 #[derive(Clone, Copy)]

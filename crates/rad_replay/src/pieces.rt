@@ -1,7 +1,6 @@
 //! Texts that are cut at each separator: a script into its lines, and a line into its words.
 
-ghost use Rattle.std.specs.Prelude.{◌≢◌, All, MatchOption};
-ghost use Rattle.rad_console.specs.Pieces.{IsFirstAt};
+use rad_console::find_first;
 
 /// The pieces of a text between its separators, in order. A text without a separator is one piece.
 #[derive(Drop)]
@@ -13,7 +12,7 @@ pub struct Pieces<'a> {
 
 impl<'a> Pieces<'a> {
     ghost use Rattle.std.specs.Prelude.{◌≡◌, Some};
-    ghost use Rattle.rad_console.specs.Pieces.{text_left};
+    ghost use Rattle.rad_replay.specs.Pieces.{text_left};
 
     /// Makes the pieces of a text.
     pub fn new(text: &'a [u8], separator: u8) -> Self
@@ -38,7 +37,7 @@ impl<'a> Iterator for Pieces<'a> {
     type Item = &'a [u8];
 
     ghost use Rattle.std.specs.Iterator.{at_most};
-    ghost use Rattle.rad_console.specs.Pieces.{CutsPiece, pieces_left};
+    ghost use Rattle.rad_replay.specs.Pieces.{CutsPiece, pieces_left};
 
     ghost next_gives = { CutsPiece };
 
@@ -57,11 +56,4 @@ impl<'a> Iterator for Pieces<'a> {
             }
         }
     }
-}
-
-/// Returns the place of the first octet of a text that equals `wanted`, if there is one.
-pub fn find_first(text: &[u8], wanted: u8) -> Option<usize>
-    ensures { MatchOption result (All (λ octet. octet ≢ wanted) text.now) (λ place. IsFirstAt text.now wanted place) }
-{
-    text.iter().position(|octet| *octet == wanted)
 }

@@ -1,7 +1,7 @@
 -- A text that is cut at each separator.
-use Rattle.std.specs.Prelude.{◌≡◌, ◌≢◌, ℕ, suc, List, ◌∷◌, ◌++◌, Option, None, Some, length, take, slice_get, All}
+use Rattle.std.specs.Prelude.{◌≡◌, ◌≢◌, ℕ, suc, List, ◌∷◌, ◌++◌, Option, None, Some, length, All}
 use Rattle.std.specs.Borrow.{Bor}
-use Rattle.rad_console.specs.declared.pieces.Pieces.{Pieces}
+use Rattle.rad_replay.specs.declared.pieces.Pieces.{Pieces}
 
 -- The text that remains to be cut, if any. After the last piece there is none.
 abbrev pub text_of : Option (Bor (List ℕ)) → Option (List ℕ)
@@ -28,11 +28,6 @@ CutsText separator (Some text) (Some piece) left = IsCut separator text piece.no
 abbrev pub CutsPiece : Pieces → Option (Bor (List ℕ)) → Pieces → Type 0
 CutsPiece pieces piece after =
     CutsText pieces.separator (text_left pieces) piece (text_left after) × (after.separator ≡ pieces.separator)
-
--- The octet is at this place, and at none before it.
-pub record IsFirstAt (text : List ℕ) (wanted place : ℕ) : Type 0 where
-  pub there : slice_get text place ≡ Some wanted
-  pub before : All (λ octet. octet ≢ wanted) (take place text)
 
 -- The most pieces that a text can have.
 abbrev pub piece_count : Option (List ℕ) → ℕ

@@ -1,6 +1,6 @@
 use Rattle.std.proofs.Common.{◌≡◌, Some, refl}
-use Rattle.rad_console.proofs.PieceLemmas.{cuts_at}
-use Rattle.rad_console.proofs.pieces.PiecesIterator.next.Goals as goal
+use Rattle.rad_replay.proofs.PieceLemmas.{cuts_at}
+use Rattle.rad_replay.proofs.pieces.PiecesIterator.next.Goals as goal
 
 pub returns-in-Some-clause-steps : goal.returns-in-Some-clause-steps
 returns-in-Some-clause-steps c =

@@ -1,7 +1,8 @@
 -- A text that is cut at its first separator.
 use Rattle.std.proofs.Common.{ℕ, ◌+◌, ◌-◌, List, ◌∷◌, ◌++◌, length, take, drop, Some, sym, ap, ◌∙◌, arith}
 use Rattle.std.proofs.lemmas.List.{take_all, length-drop}
-use Rattle.rad_console.specs.Pieces.{IsCut, IsFirstAt}
+use Rattle.rad_console.specs.Commands.{IsFirstAt}
+use Rattle.rad_replay.specs.Pieces.{IsCut}
 use Rattle.rad_console.proofs.CommandLemmas.{split_round}
 
 -- the piece is what stands before the separator, and all that stands behind it is left
