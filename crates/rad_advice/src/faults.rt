@@ -123,7 +123,6 @@ pub fn fault_reports<'t>(
     report_first(alloc, text.as_str(), document, faults.as_slice())
 }
 
-/// Reports the first of these faults.
 fn report_first<'t>(
     alloc: Global,
     text: &str,
@@ -139,7 +138,6 @@ fn report_first<'t>(
     })
 }
 
-/// Reports a fault.
 fn report_of<'t>(
     alloc: Global,
     text: &str,
@@ -162,7 +160,6 @@ fn report_of<'t>(
     })
 }
 
-/// Returns the key of a fault, if it has one.
 fn spot_of(fault: ConfigFault) -> Option<Spot>
     ensures { result ≡ spot_in fault }
 {
@@ -178,7 +175,6 @@ fn spot_of(fault: ConfigFault) -> Option<Spot>
     }
 }
 
-/// Returns the value at a key.
 fn find_value(document: &Table, spot: Spot) -> Option<&Value>
     ensures { option_map (λ v. view v.now) result ≡ data_at spot (table_view document.now) }
 {
@@ -190,7 +186,6 @@ fn find_value(document: &Table, spot: Spot) -> Option<&Value>
     value_of(table, spot.key.name())
 }
 
-/// Returns the text at the key of a fault, if it is one.
 fn text_at(document: &Table, fault: ConfigFault) -> Option<&str>
     ensures { option_map (λ s. s.now) result ≡ told_text fault (table_view document.now) }
 {
@@ -198,7 +193,6 @@ fn text_at(document: &Table, fault: ConfigFault) -> Option<&str>
     value.as_str()
 }
 
-/// Returns what is told of the value at the key of a fault.
 fn show_value(document: &Table, fault: ConfigFault) -> Shown<'_>
     ensures { shown_text result ≡ value_text fault (table_view document.now) }
 {
@@ -214,7 +208,6 @@ fn show_value(document: &Table, fault: ConfigFault) -> Shown<'_>
     }
 }
 
-/// Returns what is told of a value.
 fn show(value: &Value) -> Shown<'_>
     ensures { shown_text result ≡ data_text (Some (view value.now)) }
 {
@@ -227,7 +220,6 @@ fn show(value: &Value) -> Shown<'_>
     }
 }
 
-/// Returns what is told of a text.
 fn show_text(text: &str) -> Shown<'_>
     ensures { shown_text result ≡ (if is_told text.now then codes ": " ++ name_text text.now else []) }
 {
@@ -268,7 +260,6 @@ fn place_missing(alloc: Global, text: &str, spot: Spot) -> Result<Option<Place>,
     }
 }
 
-/// Returns the place of a key.
 fn place_key(alloc: Global, text: &str, spot: Spot) -> Result<Option<Place>, AllocError>
     ensures { IfOk result (λ found. IfSome found (BeginsAtPlace text.now (key_name spot.key))) }
 {

@@ -86,7 +86,6 @@ pub(crate) fn find_table(
     find(alloc, text, wanted)
 }
 
-/// Searches a text until the key is found.
 fn find(alloc: Global, text: &str, wanted: Wanted<'_>) -> Result<Option<Place>, AllocError>
     ensures { IfOk result (λ found. IfSome found (BeginsAtPlace text.now wanted.entry.name.now)) }
 {
@@ -138,7 +137,6 @@ fn skip_mark(text: &str) -> &str {
     }
 }
 
-/// Whether a key whose first part has this name begins at an offset of a text.
 fn stands_at(alloc: Global, text: &str, offset: usize, name: &str) -> Result<bool, AllocError>
     ensures { IfOk result (λ stands. IsTrue stands → (offset ≤ length text.now) × BeginsAt name.now offset text.now) }
 {
@@ -148,7 +146,6 @@ fn stands_at(alloc: Global, text: &str, offset: usize, name: &str) -> Result<boo
     begins_with(alloc, rest, name)
 }
 
-/// Whether the part of a key at this index has this name.
 fn is_part(parts: &[String], place: usize, name: &str) -> bool
     ensures { IsTrue result → option_map string_bytes (slice_get parts.now place) ≡ Some name.now }
 {
@@ -234,7 +231,6 @@ fn part_in_header(
 }
 
 impl Passed {
-    /// Records that a table of the array begins.
     fn begin(&mut self) {
         self.section = Section::Array;
         self.tables = self.tables.saturating_add(1);
@@ -344,7 +340,6 @@ fn find_in_array<'t>(
     Ok(None)
 }
 
-/// Whether a text begins with a key whose first part is this name.
 fn begins_with(alloc: Global, text: &str, name: &str) -> Result<bool, AllocError>
     ensures { IfOk result (λ begins. IsTrue begins → BeginsAt name.now 0 text.now) }
 {

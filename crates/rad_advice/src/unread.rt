@@ -101,7 +101,6 @@ pub fn unread_keys<'t>(
     list(alloc, text.as_str(), unread.as_slice())
 }
 
-/// Lists the first of these keys, each with its place.
 fn list<'t>(
     alloc: Global,
     text: &str,
@@ -119,7 +118,6 @@ fn list<'t>(
     )
 }
 
-/// Returns a key with its place in the text.
 fn place_key<'t>(alloc: Global, text: &str, key: Unread<'t>) -> Result<UnreadKey<'t>, AllocError>
     ensures entry { IfOk result (λ listed. entry_listed listed ≡ entry_found key.entry) }
     ensures reported { IfOk result (λ listed. IsReportedIn text.now listed) }
@@ -134,7 +132,6 @@ fn place_key<'t>(alloc: Global, text: &str, key: Unread<'t>) -> Result<UnreadKey
     })
 }
 
-/// Returns the keys of a document that are not read.
 fn unread_of_document(alloc: Global, document: &Table) -> Result<Vec<Unread<'_>>, AllocError>
     ensures { IfOk result (λ found. map entry_found found.items ≡ unread_in (table_view document.now)) }
 {
@@ -143,7 +140,6 @@ fn unread_of_document(alloc: Global, document: &Table) -> Result<Vec<Unread<'_>>
     Ok(found)
 }
 
-/// Appends the keys of a document that are not read.
 fn add_of_document<'t>(found: &mut Vec<Unread<'t>>, document: &'t Table) -> Result<(), AllocError>
     ensures { OnOk result (map entry_found found.new.items ≡ map entry_found found.old.items ++ unread_in (table_view document.now)) }
 {
@@ -153,7 +149,6 @@ fn add_of_document<'t>(found: &mut Vec<Unread<'t>>, document: &'t Table) -> Resu
     add_of_part(found, Part::Realm, document)
 }
 
-/// Appends the keys of a part's tables that are not read.
 fn add_of_part<'t>(
     found: &mut Vec<Unread<'t>>,
     part: Part,
@@ -164,7 +159,6 @@ fn add_of_part<'t>(
     add_of_values(found, part, values_at(part.name(), document))
 }
 
-/// Appends the keys that are not read of each value that is a table of a part.
 fn add_of_values<'t>(
     found: &mut Vec<Unread<'t>>,
     part: Part,
@@ -190,7 +184,6 @@ fn values_at<'t>(name: &str, document: &'t Table) -> &'t [Value]
     }
 }
 
-/// Returns the values of an array, or none for any other value.
 fn values_of(value: &Value) -> &[Value]
     ensures { items_view result.now ≡ unwrap_or (as_array (view value.now)) no_items }
 {
@@ -200,7 +193,6 @@ fn values_of(value: &Value) -> &[Value]
     }
 }
 
-/// Appends the keys of a value that are not read, if it is a table.
 fn add_of_value<'t>(
     found: &mut Vec<Unread<'t>>,
     part: Part,
@@ -215,7 +207,6 @@ fn add_of_value<'t>(
     }
 }
 
-/// Appends the keys of a part's table that are not read.
 fn add_of_table<'t>(
     found: &mut Vec<Unread<'t>>,
     part: Part,
@@ -230,7 +221,6 @@ fn add_of_table<'t>(
     Ok(())
 }
 
-/// Appends a key of a part's table, unless it is read.
 fn add_unless_read<'t>(
     found: &mut Vec<Unread<'t>>,
     part: Part,

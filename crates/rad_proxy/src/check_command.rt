@@ -43,7 +43,6 @@ pub fn check_text<R: Read + Drop, L: Log>(
     Ok(count_of(&config))
 }
 
-/// Returns how many clients, home servers and realms a configuration has.
 fn count_of(config: &Config) -> CountLine
     ensures { result ≡ counts_of config.now }
 {

@@ -121,7 +121,6 @@ impl<'a> Script<'a> {
         Ok(())
     }
 
-    /// Writes the result of one event.
     fn answer<R: Wait, W: Write>(
         &mut self,
         rt: &R,
@@ -278,7 +277,6 @@ impl<'a> Script<'a> {
     }
 }
 
-/// Writes a line.
 fn print<W: Write, L: Display>(output: &mut W, line: &L) -> Result<(), Halt> {
     match writeln!(output, "{line}") {
         Ok(()) => Ok(()),

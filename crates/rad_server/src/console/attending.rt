@@ -59,7 +59,6 @@ fn end_of_input<O: Write + Drop>(
     }
 }
 
-/// Obeys the commands to their end.
 fn obey_each<R: Clock + Wait, G, I: Read + Drop, O: Write + Drop>(
     service: Service<'_, R, G>,
     console: &mut Console<I, O>,
@@ -131,7 +130,6 @@ fn mind<R: Wait, G>(service: Service<'_, R, G>, has_input_ended: bool) -> Result
     check_workers(service)
 }
 
-/// Drains each lane.
 fn drain_each<R: Wait, G>(service: Service<'_, R, G>) {
     for lane in 0..service.proxy.lanes() {
         service.proxy.drain(service.rt, lane);

@@ -196,7 +196,6 @@ fn first_line(text: &[u8], most: usize) -> &[u8] {
     &text[..count]
 }
 
-/// Returns the index of the first line feed of a text.
 fn find_feed(text: &[u8]) -> Option<usize> {
     text.iter().position(|octet| *octet == b'\n')
 }

@@ -28,12 +28,10 @@ impl ClientQueue {
         }
     }
 
-    /// Returns whether it is that of the client that has this address.
     pub(crate) fn is_of(&self, client: [u8; 4]) -> bool {
         self.client == client
     }
 
-    /// Returns how many datagrams it holds.
     pub(crate) fn len(&self) -> usize
         ensures { result ≡ length self.now.datagrams.items }
     {
@@ -55,7 +53,6 @@ impl ClientQueue {
         Ok(Some(self.datagrams.remove(0)))
     }
 
-    /// Returns the oldest datagram, if there is one.
     pub(crate) fn first(&self) -> Option<&Waiting>
         ensures none { IfNone result (self.now.datagrams.items ≡ []) }
         ensures some { IfSome result (λ first. first.now ≡ slice_index_or self.now.datagrams.items 0 first.now) }

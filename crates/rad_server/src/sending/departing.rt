@@ -71,7 +71,6 @@ impl<'a, G: Gate> Departures<'a, G> {
         }
     }
 
-    /// Returns whether something is kept.
     pub(crate) fn has_kept(&self) -> bool {
         match &self.kept {
             Some(kept) => !kept.is_empty(),
@@ -88,7 +87,6 @@ impl<'a, G: Gate> Departures<'a, G> {
         }
     }
 
-    /// Sets the moment of the worker's turn, in milliseconds.
     pub(crate) fn set_moment(&mut self, moment: u64) {
         self.moment = moment;
     }
@@ -104,7 +102,6 @@ impl<'a, G: Gate> Departures<'a, G> {
         }
     }
 
-    /// Returns whether there is nothing to hand over.
     fn has_nothing(&self) -> bool {
         self.outbox.is_empty() && !self.has_kept()
     }

@@ -35,17 +35,14 @@ impl Kept {
         }
     }
 
-    /// Returns whether nothing is kept.
     pub(crate) fn is_empty(&self) -> bool {
         self.count == 0
     }
 
-    /// Returns whether something is kept for the client that has this address.
     pub(crate) fn has(&self, client: [u8; 4]) -> bool {
         self.place_of(client).is_some()
     }
 
-    /// Returns the place of a client's queue.
     fn place_of(&self, client: [u8; 4]) -> Option<usize> {
         self.queues.iter().position(|queue| queue.is_of(client))
     }
@@ -81,7 +78,6 @@ impl Kept {
         }
     }
 
-    /// Adds a queue for a client, with its first datagram.
     fn add(&mut self, client: [u8; 4], datagram: Waiting) -> Result<Option<Waiting>, AllocError> {
         let mut queue = ClientQueue::new(self.alloc, client);
         let lost = queue.put(datagram)?;

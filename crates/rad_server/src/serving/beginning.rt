@@ -18,7 +18,6 @@ impl Beginnings {
         }
     }
 
-    /// Counts one more worker.
     pub(crate) fn add<R: Wait>(&self, rt: &R) {
         let mut count = self.count.lock(rt);
         *count = count.saturating_add(1);
@@ -26,7 +25,6 @@ impl Beginnings {
         self.more.notify_all();
     }
 
-    /// Waits until at least `all` workers have begun.
     pub(crate) fn wait_for<R: Wait>(&self, rt: &R, all: usize) {
         let count = self.count.lock(rt);
         drop(self.more.wait_while(rt, count, |count| *count < all));

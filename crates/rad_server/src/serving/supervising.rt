@@ -64,7 +64,6 @@ impl<'a, G> Supervisor<'a, G> {
         })
     }
 
-    /// Records that a worker has begun, in its thread.
     pub(crate) fn begin<R: Wait>(&self, rt: &R) {
         self.beginnings.add(rt);
     }
@@ -81,7 +80,6 @@ impl<'a, G> Supervisor<'a, G> {
         self.notifiers.notify_all();
     }
 
-    /// Returns whether the workers are to stop.
     pub(crate) fn is_stopped(&self) -> bool {
         self.is_stopped.load(Ordering::SeqCst)
     }
@@ -94,7 +92,6 @@ impl<'a, G> Supervisor<'a, G> {
         }
     }
 
-    /// Returns the worker that ended by itself, if there is one.
     pub(crate) fn ended(&self) -> Option<Worker> {
         self.ended.get().copied()
     }
@@ -111,7 +108,6 @@ impl<'a, G> Supervisor<'a, G> {
         self.lanes.get(usize::from(lane))
     }
 
-    /// Returns what is known of the lane of a worker.
     fn lane_of(&self, worker: Worker) -> Option<&LaneState> {
         match worker {
             Worker::Front => None,

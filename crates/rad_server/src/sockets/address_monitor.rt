@@ -47,7 +47,6 @@ impl<'a, R, G, A> AddressMonitor<'a, R, G, A> {
         }
     }
 
-    /// Records that a datagram came to the socket of all addresses.
     pub(crate) fn set_come(&mut self) {
         self.has_come = true;
     }

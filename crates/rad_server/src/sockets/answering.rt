@@ -25,7 +25,6 @@ impl<'a, R, G, A> Answering<'a, R, G, A> {
         Answering { origins, monitor }
     }
 
-    /// Returns the socket from which this peer is answered.
     pub(crate) fn socket_of(&self, peer: Endpoint) -> u16 {
         self.origins.socket_of(peer)
     }

@@ -74,7 +74,6 @@ fn tell_each<G: SocketReports>(sockets: &[UdpSocket], worker: Worker, gate: &G) 
     }
 }
 
-/// Binds the sockets of the lanes of these home servers, in order.
 fn bind_lanes<R: Net + RandomSource, S: PortSettings, G: SocketReports>(
     rt: &R,
     settings: &S,

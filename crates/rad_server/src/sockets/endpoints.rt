@@ -3,7 +3,6 @@
 use rad_realms::Endpoint;
 use std::net::{Ipv4Addr, SocketAddr, SocketAddrV4};
 
-/// Returns the address and port of a socket.
 pub(crate) fn endpoint_of(socket: SocketAddrV4) -> Endpoint {
     Endpoint {
         address: socket.ip().octets(),
@@ -11,7 +10,6 @@ pub(crate) fn endpoint_of(socket: SocketAddrV4) -> Endpoint {
     }
 }
 
-/// Returns an address and port as a socket takes it.
 pub(crate) fn socket_address(endpoint: Endpoint) -> SocketAddr {
     let Endpoint { address, port } = endpoint;
     SocketAddr::V4(SocketAddrV4::new(Ipv4Addr::from(address), port))

@@ -46,7 +46,6 @@ const ROOTS: u16 = 1023;
 const FEW: u16 = 8192;
 
 impl PortRange {
-    /// Returns the range of a single port.
     pub(crate) fn single(port: u16) -> PortRange
         ensures { (result.first ≡ port) × (result.last ≡ port) }
     {
@@ -56,7 +55,6 @@ impl PortRange {
         }
     }
 
-    /// Returns whether the range has this port.
     pub(crate) fn holds(&self, port: u16) -> bool
         ensures { result ≡ holds self.now port }
     {
@@ -144,7 +142,6 @@ pub fn is_kept(ranges: &[PortRange], port: u16) -> bool
     is_usual(port) || is_in_one(ranges, port)
 }
 
-/// Returns whether one of these ranges has this port.
 fn is_in_one(ranges: &[PortRange], port: u16) -> bool
     ensures { result ≡ list_any (λ range. holds range port) ranges.now }
 {
@@ -229,7 +226,6 @@ fn read_range(least: u16, sign: char, text: &str) -> Option<PortRange>
     }
 }
 
-/// Reads a text as a decimal number in a range.
 #[tactic(auto, unfolding(rad_config::specs::Address::number_in))]
 fn read_number(least: u16, most: u16, text: &str) -> Option<u16>
     ensures { result ≡ number_in least most text.now }

@@ -90,7 +90,6 @@ fn option_value(number: i32) -> [u8; 16] {
     [a, b, c, d, 0, 0, 0, 0, 0, 0, 0, 0, 0, 0, 0, 0]
 }
 
-/// Returns the system's error if a call returned a negative number.
 fn check(answer: i32) -> Result<()> {
     if answer < 0 {
         return Err(last_error());
@@ -98,7 +97,6 @@ fn check(answer: i32) -> Result<()> {
     Ok(())
 }
 
-/// Returns why the last system call failed.
 fn last_error() -> Error {
     Error::from_raw_os_error(os::errno())
 }

@@ -50,7 +50,6 @@ impl ReadySocket {
         })
     }
 
-    /// Records that datagrams may wait there.
     pub(crate) fn set_waiting(&mut self) {
         self.waiting = true;
     }
@@ -83,7 +82,6 @@ impl ReadySocket {
         }
     }
 
-    /// Hands a datagram to the system.
     fn send(&mut self, to: Endpoint, octets: &[u8]) -> Handed {
         let handed = match self.socket.send_to(octets, socket_address(to)) {
             Ok(_) => Handed::Accepted,
@@ -97,7 +95,6 @@ impl ReadySocket {
     }
 }
 
-/// Hands a datagram to the system, from its socket of these.
 pub(crate) fn send_from(sockets: &mut [ReadySocket], sent: Sent<'_>) -> Handed {
     match sockets.get_mut(usize::from(sent.socket)) {
         Some(socket) => socket.send(sent.to, sent.octets),

@@ -122,12 +122,10 @@ impl<'a, R: Net + RandomSource, S: PortSettings> SourcePorts<'a, R, S> {
         self.refused = 0;
     }
 
-    /// Returns how many ports of the lane were tried by number.
     pub(crate) fn tried(&self) -> u32 {
         self.tried
     }
 
-    /// Returns whether a port of the lane was refused.
     pub(crate) fn was_refused(&self) -> bool {
         self.refused > 0
     }
@@ -221,7 +219,6 @@ impl<'a, R: Net + RandomSource, S: PortSettings> SourcePorts<'a, R, S> {
         }
     }
 
-    /// Binds a socket to this port.
     fn try_port(&mut self, port: u16) -> io::Result<UdpSocket> {
         self.tried = self.tried.saturating_add(1);
         let bound = bind(self.rt, Endpoint { port, ..ANY });

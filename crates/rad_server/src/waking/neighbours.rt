@@ -49,7 +49,6 @@ impl Neighbours {
         }
     }
 
-    /// Wakes each of the others that is due.
     fn wake_each(&self) {
         for other in &self.others {
             other.notify_if_due();

@@ -87,14 +87,12 @@ impl Notifier {
         }
     }
 
-    /// Notifies the worker if it is due.
     pub(crate) fn notify_if_due(&self) {
         if self.0.is_due.load(Ordering::SeqCst) && self.0.is_due.swap(false, Ordering::SeqCst) {
             self.notify();
         }
     }
 
-    /// Returns whether the worker is busy.
     fn is_busy(&self) -> bool {
         self.0.is_busy.load(Ordering::SeqCst)
     }
@@ -104,7 +102,6 @@ impl Notifier {
         self.0.is_busy.store(is_busy, Ordering::SeqCst);
     }
 
-    /// Records that the worker is behind.
     fn set_behind(&self) {
         self.0.is_behind.store(true, Ordering::SeqCst);
     }
@@ -169,7 +166,6 @@ impl Notifiers {
         }
     }
 
-    /// Records that a worker is behind, if it has a notifier.
     pub(crate) fn set_behind(&self, worker: Worker) {
         if let Some(notifier) = self.of(worker) {
             notifier.set_behind();
@@ -215,7 +211,6 @@ impl Notifiers {
         Ok(others)
     }
 
-    /// Returns the notifier of a worker, if it has one.
     fn of(&self, worker: Worker) -> Option<&Notifier> {
         match worker {
             Worker::Front => self.front.as_ref(),

@@ -84,7 +84,6 @@ impl RingLevel {
         Taken::from(self.in_use_after(taken), self.0.places)
     }
 
-    /// Returns how many responses the front took and sent.
     pub(crate) fn taken(&self) -> u64 {
         self.0.taken.load(Ordering::SeqCst)
     }

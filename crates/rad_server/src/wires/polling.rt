@@ -107,12 +107,10 @@ impl<'a, G: Gate> PolledSockets<'a, G> {
         })
     }
 
-    /// Returns whether datagrams wait that the system did not accept.
     pub(crate) fn has_kept(&self) -> bool {
         self.departures.has_kept()
     }
 
-    /// Sets the moment of the worker's turn, in milliseconds.
     pub(crate) fn set_moment(&mut self, moment: u64) {
         self.departures.set_moment(moment);
     }
@@ -158,7 +156,6 @@ impl<'a, G: Gate> PolledSockets<'a, G> {
         }
     }
 
-    /// Marks every socket as one that may have datagrams.
     fn set_each_waiting(&mut self) {
         self.receives = 0;
         self.has_failed = false;
@@ -245,7 +242,6 @@ impl<'a, G: Gate> PolledSockets<'a, G> {
         self.departures.count_receive(self.sockets.as_mut_slice());
     }
 
-    /// Sends a datagram from a socket.
     pub(crate) fn send(&mut self, socket: u16, to: Endpoint, octets: &[u8]) -> Delivery {
         self.has_sent = true;
         if usize::from(socket) >= self.sockets.len() {
