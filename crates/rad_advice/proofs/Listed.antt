@@ -1,6 +1,6 @@
 -- What the loops over the items of a configuration keep, where doubts are listed.
-use Rattle.std.proofs.Common.{◌≡◌, ℕ, ◌+◌, ◌<◌, ◌≤◌, ◌||◌, List, [], ◌∷◌, ◌++◌, length, get_or, map, take, drop, refl, sym, ap, ◌∙◌, append_assoc}
-use Rattle.std.proofs.lemmas.List.{append-nil, drop_more, take_more, map-append}
+use Rattle.std.proofs.Common.{◌≡◌, ℕ, ◌+◌, ◌<◌, ◌≤◌, ◌||◌, List, [], ◌∷◌, ◌++◌, length, get_or, map, drop, refl, sym, ap, ◌∙◌, append_assoc}
+use Rattle.std.proofs.lemmas.List.{append-nil, drop_more}
 use Rattle.std.proofs.Math.ListN.{drop_of_length-le}
 use Rattle.std.specs.Borrow.{Bor}
 use Rattle.std.specs.List.{list_any}
@@ -33,11 +33,3 @@ module _ {X : Type 0} (f : ℕ → X → List Doubtful) (xs : List X) where
       sym (append-nil told)
       ∙ sym (ap (λ (ys : List X). told ++ each_doubt f i ys) (drop_of_length-le xs le))
       ∙ e
-
--- one element more has the next element of another list as its image
-pub told_more : {X Y : Type 0} (f : X → Y) (old new : List X) (x : X) (ys : List Y) (i : ℕ) (d : Y)
-    → new ≡ old ++ x ∷ [] → i < length ys → f x ≡ get_or ys i d → map f old ≡ take i ys → map f new ≡ take (i + 1) ys
-told_more f old new x ys i d e lt here before =
-    let left : map f new ≡ map f old ++ f x ∷ [] = ap (map f) e ∙ map-append f old (x ∷ []) in
-    let right : take (i + 1) ys ≡ take i ys ++ get_or ys i d ∷ [] = take_more ys i d lt in
-    cc

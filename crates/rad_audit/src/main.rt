@@ -23,13 +23,13 @@ mod wording;
 mod words;
 
 ghost use Rattle.std.specs.Prelude.{◌≡◌, ◌≤◌, ℕ, List, length, IfErr, IfOk, Ok};
-ghost use Rattle.rad_console.specs.Configurations.{ReadsOctets};
+ghost use Rattle.rad_files.specs.Configurations.{ReadsOctets};
 ghost use Rattle.rad_audit.specs.Statuses.{IsStatus, status_of};
 
 use auditing::audit_files;
 use faults::{Fault, written};
 use printing::{NO_FINDINGS, Outputs};
-use rad_console::{read_at_most, read_configuration};
+use rad_files::{read_at_most, read_configuration};
 use rad_realms::Config;
 use std::alloc::{AllocGlobal, Global};
 use std::env::{self, Env};
