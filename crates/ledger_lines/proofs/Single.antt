@@ -14,7 +14,7 @@ use Rattle.ledger_lines.specs.declared.begin.Begin.{Begin}
 use Rattle.ledger_lines.specs.declared.end.End.{End}
 use Rattle.ledger_lines.specs.declared.begin.FileBefore.{FileBefore}
 use Rattle.ledger_lines.specs.declared.end.LaneCount.{LaneCount}
-use Rattle.ledger_lines.specs.declared.begin.LaneStart.{LaneStart}
+use Rattle.ledger_lines.specs.declared.lane_start.LaneStart.{LaneStart}
 use Rattle.ledger_lines.specs.declared.faults.LineFault.{LineFault}
 use Rattle.ledger_lines.specs.declared.faults.LineFault.TheVariants.{NotALine, OutOfMemory}
 use Rattle.ledger_lines.specs.declared.reading.Line.{Line}

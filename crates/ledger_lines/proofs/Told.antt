@@ -22,7 +22,7 @@ use Rattle.rad_ledger.specs.declared.left.Left.{Left}
 use Rattle.rad_ledger.specs.declared.line_request.LineRequest.{LineRequest}
 use Rattle.ledger_lines.specs.declared.begin.Begin.{Begin}
 use Rattle.ledger_lines.specs.declared.begin.FileBefore.{FileBefore}
-use Rattle.ledger_lines.specs.declared.begin.LaneStart.{LaneStart}
+use Rattle.ledger_lines.specs.declared.lane_start.LaneStart.{LaneStart}
 use Rattle.ledger_lines.specs.Written.{AreBytesIfAny, IsBelowIfAny, IsReadableBegin, IsReadableCount, IsReadableEnd, IsReadableEntry, IsReadableFile, IsReadableFileIfAny, IsReadableLeft, IsReadableRequest, IsReadableStart, IsSumIfAny, IsTimeIfAny, begin_slots, begin_value, count_slots, count_value, digits_if_any, end_slots, end_value, entry_slots, entry_value, file_slots, file_value, items_of, lane_slots, left_slots, left_value, number_value, octets_value, packet_slots, request_slots, start_slots, start_value, state_slots, text_if_any}
 use Rattle.ledger_lines.specs.declared.end.End.{End}
 use Rattle.ledger_lines.specs.declared.end.LaneCount.{LaneCount}

@@ -8,12 +8,12 @@ ghost use Rattle.ledger_lines.specs.internal.Adding.{AddsSlots, Opens};
 ghost use Rattle.ledger_lines.specs.Written.{lane_slots, request_slots};
 
 use crate::faults::LineFault;
-use crate::members::{address, digits, first_members, number, number_if_any, text, widened, words};
 use crate::reading::Words;
 use crate::values::{
     authenticator_at, client_at, count_at, number_at, octet_at, run_at, short_at, text_at, time_at,
     words_at,
 };
+use crate::writing::{address, digits, first_members, number, number_if_any, text, widened, words};
 use json::{Value, Writer};
 use rad_ledger::LineRequest;
 use std::alloc::{AllocError, Global};

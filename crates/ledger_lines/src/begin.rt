@@ -1,9 +1,9 @@
 //! The lines that name a run and begin a file, read and written.
 
-ghost use Rattle.std.specs.Prelude.{[], ◌∷◌, List, MatchResult, OnOk, Option, codes, IfOk, option_map, ◌<◌, ◌^◌};
+ghost use Rattle.std.specs.Prelude.{[], ◌∷◌, List, MatchResult, OnOk, Option, codes, IfOk, option_map};
 ghost use Rattle.json.specs.Value.{items_view, value_view};
 ghost use Rattle.ledger_lines.specs.declared.begin.Begin.{Begin as TheBegin};
-ghost use Rattle.ledger_lines.specs.declared.begin.LaneStart.{LaneStart as TheStart};
+ghost use Rattle.ledger_lines.specs.declared.lane_start.LaneStart.{LaneStart as TheStart};
 ghost use Rattle.ledger_lines.specs.declared.begin.FileBefore.{FileBefore as TheFile};
 ghost use Rattle.ledger_lines.specs.Lines.{AreEach, Denies, HasLanes, HasText, IsBegin, IsFileBefore, IsLaneStart, MayHaveFile};
 ghost use Rattle.json.specs.Json.{array};
@@ -12,25 +12,18 @@ ghost use Rattle.ledger_lines.specs.internal.Adding.{Adds, AddsSlots};
 ghost use Rattle.ledger_lines.specs.Written.{HasLineBehind, HasValueBehind, begin_value, file_value, items_of, start_value};
 
 use crate::faults::LineFault;
+<<<<<<< ours
+use crate::lane_start::LaneStart;
 use crate::members::{close_line, digits, digits_if_any, first_members, number, text};
+=======
+>>>>>>> theirs
 use crate::values::{
     has_only, lanes_at, number_at, push, run_at, serial_at, short_at, sum_at, sum_if_any_at,
     text_at, time_at,
 };
+use crate::writing::{close_line, digits, digits_if_any, first_members, number, text};
 use json::{Value, Writer};
 use std::alloc::{AllocError, Global};
-
-/// A lane, as the line that begins a file names it.
-#[derive(Clone, Copy, Debug, PartialEq, Eq)]
-pub struct LaneStart<'a> {
-    /// Its number.
-    pub lane: u16,
-    /// The home server's name in the configuration.
-    pub home: &'a str,
-    /// The serial of the lane's next response, below 2^63.
-    pub serial: u64,
-    ghost bounded: { serial < 2 ^ 63 },
-}
 
 /// A file of another run, as the first file of a run names it.
 #[derive(Clone, Copy)]

@@ -11,10 +11,10 @@ ghost use Rattle.ledger_lines.specs.declared.end.End.{End as TheEnd};
 ghost use Rattle.ledger_lines.specs.declared.end.LaneCount.{LaneCount as TheCount};
 
 use crate::faults::LineFault;
-use crate::members::{close_line, digits_if_any, first_members, number, number_if_any};
 use crate::values::{
     amount_at, has_only, lanes_at, number_at, push, run_at, short_at, sum_if_any_at, time_at,
 };
+use crate::writing::{close_line, digits_if_any, first_members, number, number_if_any};
 use json::{Value, Writer};
 use std::alloc::{AllocError, Global};
 

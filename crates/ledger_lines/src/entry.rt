@@ -10,9 +10,9 @@ ghost use Rattle.ledger_lines.specs.Written.{HasLineBehind, HasValueBehind, entr
 
 use crate::about::{about_at, lane_members, request_members};
 use crate::faults::LineFault;
-use crate::members::{close_line, digits, number};
 use crate::reading::Octets;
 use crate::values::{has_only, octets_at, serial_at};
+use crate::writing::{close_line, digits, number};
 use json::{Value, Writer};
 use rad_ledger::Entry;
 use std::alloc::{AllocError, Global};

@@ -11,9 +11,9 @@ ghost use Rattle.rad_desk.specs.declared.leaving.LeftState.{LeftState as TheStat
 
 use crate::about::{about_at, lane_members, request_members};
 use crate::faults::LineFault;
-use crate::members::{close_line, digits, number_if_any, text, text_if_any, widened};
 use crate::reading::Octets;
 use crate::values::{count_at, has_only, octets_at, text_at, time_if_any_at};
+use crate::writing::{close_line, digits, number_if_any, text, text_if_any, widened};
 use json::{Value, Writer};
 use rad_ledger::{Left, LeftState};
 use std::alloc::{AllocError, Global};

@@ -3,6 +3,7 @@ use Rattle.std.specs.Prelude.{ℕ, Bool, not, ◌&&◌, ◌==◌, nat_le, if◌t
 use Rattle.std.specs.Fmt.{decimal}
 use Rattle.std.specs.List.{flat_map, list_all}
 use Rattle.std.specs.Str.{is_utf8}
+use Rattle.rad_config.specs.Printed.{address_text}
 use Rattle.rad_audit.specs.Shown.{character_text, octet_text}
 use Rattle.rad_audit.specs.declared.shown.Within.TheVariants.{Row}
 
@@ -30,3 +31,7 @@ value_cell (Some octets) = if bytes_eq octets (codes "-") then codes "%2d" else 
 abbrev pub number_cell : Option ℕ → List ℕ
 number_cell None = codes "-"
 number_cell (Some n) = decimal n
+
+-- A client's address.
+unfoldable pub client_cell : List ℕ → List ℕ
+client_cell address = address_text address

@@ -19,19 +19,26 @@ run_text run = padded_integral (format_spec 32 0 4 16 (2 ^ 64 - 1)) false [] (di
 abbrev pub name_text : LaneName → List ℕ
 name_text name = codes "run " ++ run_text name.run ++ codes " lane " ++ decimal name.number ++ codes " " ++ word_text name.home.now
 
+-- What a lane has, behind its name.
+abbrev pub counts_text : LaneCounts → List ℕ
+counts_text counts =
+    (codes "from " ++ decimal counts.first ++ codes " entries " ++ decimal counts.entries ++ codes " ")
+    ++ (codes "not judged " ++ decimal counts.not_judged ++ codes " " ++ verdict_text counts.verdict)
+
+abbrev pub steps_text : ℕ → List ℕ
+steps_text steps = codes "steps back in time " ++ decimal steps
+
 abbrev pub line_of : Finding → List ℕ
 line_of (finding.Wrong place reason) = place_text place ++ codes ": " ++ reason_text reason
 line_of (finding.Torn place) = place_text place ++ codes ": torn"
 line_of (finding.Gap place name gap) = place_text place ++ codes ": " ++ name_text name ++ codes " " ++ gap_text gap
 line_of (finding.Files place run files) =
     place_text place ++ codes ": run " ++ run_text run ++ codes " files " ++ decimal files.first ++ codes " to " ++ decimal files.last ++ codes " missing"
-line_of (finding.Lane counts) =
-    (name_text counts.name ++ codes " from " ++ decimal counts.first ++ codes " entries " ++ decimal counts.entries ++ codes " ")
-    ++ (codes "not judged " ++ decimal counts.not_judged ++ codes " " ++ verdict_text counts.verdict)
+line_of (finding.Lane counts) = name_text counts.name ++ codes " " ++ counts_text counts
 line_of (finding.Fates name fates) =
     name_text name ++ codes " accepted " ++ decimal fates.accepted ++ codes " answered " ++ decimal fates.answered ++ codes " left " ++ decimal fates.left
 line_of (finding.Ranges name) = name_text name ++ codes " more than 4096 ranges"
-line_of (finding.Back name steps) = name_text name ++ codes " steps back in time " ++ decimal steps
+line_of (finding.Back name steps) = name_text name ++ codes " " ++ steps_text steps
 line_of (finding.Hidden run count) = codes "run " ++ run_text run ++ codes " hidden " ++ decimal count
 line_of (finding.Before run file) = codes "run " ++ run_text run ++ codes " before " ++ word_text (string_bytes file.now.name.0) ++ codes " missing"
 line_of (finding.Sum word) = word_text word.now ++ codes ": " ++ reason_text WrongSum

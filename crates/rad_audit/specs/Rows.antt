@@ -2,7 +2,6 @@
 use Rattle.std.specs.Prelude.{ℕ, List, [], ◌∷◌, ◌++◌, codes, Option, Some, None, option_copied}
 use Rattle.std.specs.Fmt.{decimal}
 use Rattle.rad_packet.specs.Packet.{identifier_of}
-use Rattle.rad_config.specs.Printed.{address_text}
 use Rattle.rad_config.specs.Realm.{realm_of_packet}
 use Rattle.rad_lane.specs.Session.{session_id}
 use Rattle.rad_ledger.specs.declared.entry.Entry.{Entry}
@@ -10,7 +9,7 @@ use Rattle.rad_ledger.specs.declared.left.Left.{Left as TheLeft}
 use Rattle.rad_ledger.specs.declared.line_request.LineRequest.{LineRequest}
 use Rattle.ledger_lines.specs.Lines.{state_text}
 use Rattle.rad_audit.specs.Printed.{run_text}
-use Rattle.rad_audit.specs.Cells.{value_cell, number_cell}
+use Rattle.rad_audit.specs.Cells.{client_cell, value_cell, number_cell}
 use Rattle.rad_audit.specs.Facts.{number_at, octets_at, value_at}
 use Rattle.rad_audit.specs.declared.facts.Facts.{Facts}
 use Rattle.rad_audit.specs.declared.printing.Place.{Place}
@@ -33,7 +32,7 @@ place_words place = value_cell (Some place.file.now) ∷ decimal place.line ∷ 
 abbrev pub name_of : LineRequest → Option ℕ → List (List ℕ)
 name_of about serial =
     run_text about.run ∷ decimal about.lane ∷ number_cell serial ∷ decimal about.number ∷ value_cell (Some about.time.now)
-    ∷ address_text about.client ∷ decimal about.port ∷ []
+    ∷ client_cell about.client ∷ decimal about.port ∷ []
 
 -- What the packets of an entry say: the Identifier of the request, which the response has, the home server under whose secret they are
 -- judged, the realm, the session, the user, the status, the octets received from the port and sent to it, and the seconds.
@@ -61,7 +60,7 @@ row_of_left place l = place_words place ++ name_of l.about None ++ facts_of_left
 abbrev pub name_words : RecordName → List (List ℕ)
 name_words r =
     run_text r.run ∷ decimal r.lane ∷ number_cell r.serial ∷ decimal r.number ∷ value_cell (Some r.time.now)
-    ∷ address_text r.client ∷ decimal r.port ∷ []
+    ∷ client_cell r.client ∷ decimal r.port ∷ []
 
 abbrev pub facts_words : Facts → List (List ℕ)
 facts_words f =

@@ -473,7 +473,6 @@ fn secret_of_client(config: &Config, address: [u8; 4]) -> Option<&Secret>
     Some(config.client_of(address)?.secret())
 }
 
-/// A run ends.
 fn take_end<W: Write>(
     runs: &mut Runs,
     report: &mut Report<'_, W>,

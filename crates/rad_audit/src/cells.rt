@@ -7,6 +7,7 @@ ghost use Rattle.rad_audit.specs.Cells.{is_plain as the_is_plain, octet_cell, te
 
 use crate::shown::{Within, write_characters};
 use rad_log::Escaped;
+use rad_realms::AddressText;
 use std::fmt;
 
 /// A value, or `-` where there is none. Control and format characters, `%`, `\` and octets that are no visible ASCII of a value that
@@ -17,6 +18,10 @@ pub struct Cell<'a>(pub Option<&'a [u8]>);
 /// A number, or `-` where there is none.
 #[derive(Clone, Copy)]
 pub struct NumberCell(pub Option<u64>);
+
+/// A client's IPv4 address.
+#[derive(Clone, Copy)]
+pub struct ClientCell(pub [u8; 4]);
 
 /// An octet of a value that is not UTF-8.
 #[derive(Clone, Copy)]
@@ -53,6 +58,19 @@ impl fmt::Display for NumberCell {
             Some(number) => write!(f, "{number}"),
             None => f.write_str("-"),
         }
+    }
+}
+
+impl fmt::Display for ClientCell {
+    ghost use Rattle.std.specs.Prelude.{Some};
+    ghost use Rattle.rad_audit.specs.Cells.{client_cell};
+
+    ghost output = { λ cell. Some (client_cell cell.0) };
+
+    #[tactic(auto, unfolding(crate::specs::Cells::client_cell))]
+    fn fmt<W: fmt::Write>(&self, f: &mut fmt::Formatter<W>) -> fmt::Result {
+        let address = AddressText(self.0);
+        write!(f, "{address}")
     }
 }
 
@@ -96,7 +114,6 @@ impl fmt::Display for Octet {
     }
 }
 
-/// Whether a value is printed as a missing one would be.
 fn is_hyphen(value: &[u8]) -> bool
     ensures { result ≡ bytes_eq value.now (codes "-") }
 {
@@ -109,7 +126,6 @@ fn are_plain(octets: &[u8]) -> bool
     octets.iter().all(|octet| is_plain(*octet))
 }
 
-/// Whether an octet of a value that is not UTF-8 is printed as it is: a space or visible ASCII, but `%` and `\`.
 fn is_plain(octet: u8) -> bool
     ensures { result ≡ the_is_plain octet }
 {

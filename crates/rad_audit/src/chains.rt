@@ -126,7 +126,6 @@ impl RunChain {
     }
 }
 
-/// Returns the chain behind a line, which is given without its line end, that has this sum before it.
 fn chain_behind(sum: [u8; 32], line: &[u8]) -> Chain
     ensures { result.sum ≡ chain_after sum (sha256 (line.now ++ 10 ∷ [])) }
 {

@@ -106,8 +106,6 @@ fn number_of(value: &[u8]) -> Option<u32>
     }
 }
 
-/// Returns how many octets a packet counts: 2^32 times the number in its first attribute of one Type, if it has one, and
-/// the number in that of the other.
 fn octets_at(packet: &PacketRef<'_>, gigawords: u8, octets: u8) -> Option<u64>
     ensures { result ≡ the_octets_at gigawords octets packet.now }
 {

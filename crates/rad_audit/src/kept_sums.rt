@@ -40,7 +40,6 @@ impl<'a> KeptSum<'a> {
         })
     }
 
-    /// Returns the same, once this run has this sum in this file.
     fn seen(self, run: u64, file: u64, sum: [u8; 32]) -> KeptSum<'a>
         ensures { result ≡ the_seen run file sum self.entry }
     {

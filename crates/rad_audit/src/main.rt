@@ -150,7 +150,6 @@ where
     }
 }
 
-/// Returns the words that the program was called with, its own name first.
 fn read_arguments<R: Env + AllocGlobal>(rt: &R) -> Result<Vec<String>, Fault> {
     let arguments = match env::args(rt) {
         Ok(arguments) => arguments,

@@ -87,6 +87,10 @@ pub struct LaneCounts<'a> {
     pub verdict: Verdict,
 }
 
+/// Steps back in time.
+#[derive(Clone, Copy)]
+struct BackSteps(u64);
+
 /// Which parts are asked for, so that they are no fault.
 #[derive(Clone, Copy)]
 pub struct Asked {
@@ -393,6 +397,34 @@ impl fmt::Display for LaneName<'_> {
     }
 }
 
+impl fmt::Display for LaneCounts<'_> {
+    ghost use Rattle.std.specs.Prelude.{Some};
+    ghost use Rattle.rad_audit.specs.Printed.{counts_text};
+
+    ghost output = { λ counts. Some (counts_text counts) };
+
+    fn fmt<W: fmt::Write>(&self, f: &mut fmt::Formatter<W>) -> fmt::Result {
+        let first = self.first;
+        let entries = self.entries;
+        let not_judged = self.not_judged;
+        let verdict = self.verdict;
+        write!(f, "from {first} entries {entries} ")?;
+        write!(f, "not judged {not_judged} {verdict}")
+    }
+}
+
+impl fmt::Display for BackSteps {
+    ghost use Rattle.std.specs.Prelude.{Some};
+    ghost use Rattle.rad_audit.specs.Printed.{steps_text};
+
+    ghost output = { λ steps. Some (steps_text steps.0) };
+
+    fn fmt<W: fmt::Write>(&self, f: &mut fmt::Formatter<W>) -> fmt::Result {
+        let steps = self.0;
+        write!(f, "steps back in time {steps}")
+    }
+}
+
 impl fmt::Display for Finding<'_> {
     ghost use Rattle.std.specs.Prelude.{Some};
     ghost use Rattle.rad_audit.specs.Printed.{line_of};
@@ -407,18 +439,9 @@ impl fmt::Display for Finding<'_> {
             Finding::Files(place, run, Gap { first, last }) => {
                 write!(f, "{place}: run {run:016x} files {first} to {last} missing")
             }
-            Finding::Lane(
-                LaneCounts {
-                    name,
-                    first,
-                    entries,
-                    not_judged,
-                    verdict,
-                    ..
-                },
-            ) => {
-                write!(f, "{name} from {first} entries {entries} ")?;
-                write!(f, "not judged {not_judged} {verdict}")
+            Finding::Lane(counts) => {
+                let name = counts.name;
+                write!(f, "{name} {counts}")
             }
             Finding::Fates(name, fates) => {
                 let FateCounts {
@@ -432,7 +455,10 @@ impl fmt::Display for Finding<'_> {
                 )
             }
             Finding::Ranges(name) => write!(f, "{name} more than 4096 ranges"),
-            Finding::Back(name, steps) => write!(f, "{name} steps back in time {steps}"),
+            Finding::Back(name, steps) => {
+                let steps = BackSteps(steps);
+                write!(f, "{name} {steps}")
+            }
             Finding::Hidden(run, count) => write!(f, "run {run:016x} hidden {count}"),
             Finding::Before(run, file) => {
                 let name = Shown(file.name());

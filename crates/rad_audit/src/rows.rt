@@ -4,11 +4,10 @@ ghost use Rattle.std.specs.Prelude.{◌≡◌, MatchOption};
 ghost use Rattle.rad_packet.specs.Packet.{IsPacketText};
 ghost use Rattle.rad_audit.specs.Rows.{row_of, row_of_left, name_of, name_words, words_of};
 
-use crate::cells::{Cell, NumberCell};
+use crate::cells::{Cell, ClientCell, NumberCell};
 use crate::facts::Facts;
 use crate::printing::Place;
 use rad_ledger::{Entry, Left, LeftState, LineRequest, whole_packet};
-use rad_realms::AddressText;
 use std::fmt;
 
 /// What became of a record.
@@ -38,6 +37,10 @@ pub struct RecordName<'a> {
     /// The UDP port that the request came from.
     pub port: u16,
 }
+
+/// The name of a run, as sixteen hexadecimal digits.
+#[derive(Clone, Copy)]
+pub struct RunText(pub u64);
 
 /// The row of a record.
 #[derive(Clone, Copy)]
@@ -116,17 +119,29 @@ impl fmt::Display for RecordName<'_> {
     ghost output = { λ name. Some (with_tabs (name_words name)) };
 
     fn fmt<W: fmt::Write>(&self, f: &mut fmt::Formatter<W>) -> fmt::Result {
-        let run = self.run;
+        let run = RunText(self.run);
         let lane = self.lane;
         let serial = NumberCell(self.serial);
         let number = self.number;
         let time = Cell(Some(self.time.as_bytes()));
-        let client = AddressText(self.client);
+        let client = ClientCell(self.client);
         let port = self.port;
         write!(
             f,
-            "{run:016x}\t{lane}\t{serial}\t{number}\t{time}\t{client}\t{port}"
+            "{run}\t{lane}\t{serial}\t{number}\t{time}\t{client}\t{port}"
         )
+    }
+}
+
+impl fmt::Display for RunText {
+    ghost use Rattle.std.specs.Prelude.{Some};
+    ghost use Rattle.rad_audit.specs.Printed.{run_text};
+
+    ghost output = { λ run. Some (run_text run.0) };
+
+    fn fmt<W: fmt::Write>(&self, f: &mut fmt::Formatter<W>) -> fmt::Result {
+        let run = self.0;
+        write!(f, "{run:016x}")
     }
 }
 

@@ -95,8 +95,6 @@ fn is_format(code: u32) -> bool
         .any(|run| run.0 <= code && code <= run.1)
 }
 
-/// Returns the first and the last code point of each run of Unicode's format characters, and of its separators of lines and
-/// paragraphs.
 fn format_runs() -> &'static [(u32, u32)]
     ensures { result.now ≡ the_format_runs }
 {
@@ -124,7 +122,6 @@ fn format_runs() -> &'static [(u32, u32)]
     ]
 }
 
-/// Writes each octet of a character as `%` and two hexadecimal digits, if it is a hidden one, `%` or `\`.
 fn write_escaped<W: fmt::Write>(f: &mut fmt::Formatter<W>, character: char) -> fmt::Result
     ensures { (within : TheWithin) → the_is_escaped within character ≡ true → WritesOnOk W.write_str_gives f.old result (flat_map octet_text (encode_utf8 character)) f.new }
 {

@@ -100,7 +100,6 @@ fn command<'a>(alloc: Global) -> Result<Command<'a>, AllocError> {
     command.arg(file_words(alloc))
 }
 
-/// Returns the word `--` and this name, which takes no value.
 fn flag<'a>(alloc: Global, name: &'a str, help: &'a str) -> Arg<'a> {
     Arg::new(alloc, name)
         .long(name)

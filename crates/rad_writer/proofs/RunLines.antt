@@ -3,7 +3,7 @@ use Rattle.std.proofs.Common.{◌≡◌, Bool, ℕ, suc, ◌+◌, ◌<◌, ◌�
 use Rattle.std.specs.Prelude.{IfOk, slice_get, string_bytes}
 use Rattle.std.proofs.lemmas.List.{map-append, take_all}
 use Rattle.ledger_lines.specs.declared.end.LaneCount.{LaneCount}
-use Rattle.ledger_lines.specs.declared.begin.LaneStart.{LaneStart}
+use Rattle.ledger_lines.specs.declared.lane_start.LaneStart.{LaneStart}
 use Rattle.rad_writer.specs.declared.progress.LaneProgress.{LaneProgress}
 use Rattle.rad_writer.specs.RunLines.{AreCounted, AreStarts, lane_number, lane_numbers, serial_in, serials_in}
 

@@ -6,7 +6,7 @@ use Rattle.ledger_lines.specs.declared.begin.Begin.{Begin}
 use Rattle.ledger_lines.specs.declared.end.End.{End}
 use Rattle.ledger_lines.specs.declared.begin.FileBefore.{FileBefore}
 use Rattle.ledger_lines.specs.declared.end.LaneCount.{LaneCount}
-use Rattle.ledger_lines.specs.declared.begin.LaneStart.{LaneStart}
+use Rattle.ledger_lines.specs.declared.lane_start.LaneStart.{LaneStart}
 use Rattle.ledger_files.specs.declared.disk.FoundFile.{FoundFile}
 use Rattle.rad_writer.specs.Progress.{start_by}
 use Rattle.rad_writer.specs.declared.lines.FileStart.{FileStart}

@@ -1,7 +1,7 @@
 use Rattle.std.proofs.Common.{List, rules}
 use Rattle.json.specs.Value.{items_view}
 use Rattle.ledger_lines.specs.Lines.{AreEach, Denies, IsLaneStart}
-use Rattle.ledger_lines.specs.declared.begin.LaneStart.{LaneStart}
+use Rattle.ledger_lines.specs.declared.lane_start.LaneStart.{LaneStart}
 use Rattle.ledger_lines.proofs.Lists.{each_next, each_all, each_denied}
 use Rattle.ledger_lines.proofs.begin.starts_of.Goals as goal
 

@@ -24,4 +24,4 @@ loop-item-init g c = subst (AllZip _ []) (sym c.new-first.ensures.items) tt
 pub loop-item-preserved : goal.loop-item-preserved
 loop-item-preserved g c =
     subst (AllZip _ _) (sym c.in_ok-push.ensures.items)
-    (zip_more _ (take c.min-count.result c.args.items.now) c.loop-item.first.items c.loop-item.item-index _ _ c.loop-item-test.true c.item-item.is c.loop-item.invariant c.tell.ensures)
+    (zip_more _ (take c.min-count.result c.args.items.now) c.loop-item.first.items c.loop-item.item-index _ _ c.loop-item-test.true c.item-item.is c.loop-item.invariant c.in_ok-told.ensures)

@@ -1,6 +1,6 @@
 use Rattle.std.specs.Int.{w64, to_be_bytes}
 use Rattle.ledger_lines.proofs.Adding.{opened, opens_then, opens_last, octets_are}
-use Rattle.ledger_lines.proofs.members.first_members.Goals as goal
+use Rattle.ledger_lines.proofs.writing.first_members.Goals as goal
 
 pub returns : goal.returns
 returns c =

@@ -4,7 +4,7 @@ use Rattle.std.specs.Borrow.{Bor}
 use Rattle.ledger_lines.specs.Written.{words_slots}
 use Rattle.ledger_lines.specs.internal.Adding.{AddsSlots}
 use Rattle.ledger_lines.proofs.Adding.{words_digits, words_text}
-use Rattle.ledger_lines.proofs.members.words.Goals as goal
+use Rattle.ledger_lines.proofs.writing.words.Goals as goal
 
 pub returns-in-Ok : goal.returns-in-Ok
 returns-in-Ok c =
