@@ -12,11 +12,7 @@ ghost use Rattle.ledger_lines.specs.internal.Adding.{Adds, AddsSlots};
 ghost use Rattle.ledger_lines.specs.Written.{HasLineBehind, HasValueBehind, begin_value, file_value, items_of, start_value};
 
 use crate::faults::LineFault;
-<<<<<<< ours
 use crate::lane_start::LaneStart;
-use crate::members::{close_line, digits, digits_if_any, first_members, number, text};
-=======
->>>>>>> theirs
 use crate::values::{
     has_only, lanes_at, number_at, push, run_at, serial_at, short_at, sum_at, sum_if_any_at,
     text_at, time_at,
