@@ -6,4 +6,3 @@ pub mod Samples
 pub mod Times
 pub mod Events
 pub mod Metrics
-pub mod Rows

@@ -30,8 +30,8 @@ impl Counts {
     pub fn new(alloc: Global, lanes: usize, clients: usize) -> Result<Counts, AllocError> {
         let mut firsts = Vec::new(alloc);
         let mut width = APART;
-        for row in METRICS {
-            if let Metric::Counted(metric) = row.metric {
+        for metric in METRICS {
+            if let Metric::Counted(metric) = *metric {
                 firsts.push(width)?;
                 width = width.saturating_add(metric.width());
             }

@@ -29,6 +29,17 @@ struct HelpLine(Family);
 #[derive(Clone, Copy)]
 struct TypeLine(Family);
 
+/// Makes the family of a metric by a table, which has the kind, the name and the help text of each.
+macro_rules! families {
+    ($metric:expr; $($case:pat => $kind:ident($name:literal, $help:literal),)+) => {
+        match $metric {
+            $($case => Family { name: $name, kind: Kind::$kind, help: $help },)+
+        }
+    };
+}
+
+pub(crate) use families;
+
 impl fmt::Display for Kind {
     ghost use Rattle.std.specs.Prelude.{Some};
     ghost use Rattle.rad_metrics.specs.Families.{kind_text};
@@ -46,9 +57,9 @@ impl fmt::Display for Kind {
 
 impl fmt::Display for Family {
     ghost use Rattle.std.specs.Prelude.{Some};
-    ghost use Rattle.rad_metrics.specs.Families.{head_text};
+    ghost use Rattle.rad_metrics.specs.Families.{described_by, head_text};
 
-    ghost output = { λ family. Some (head_text family) };
+    ghost output = { λ family. Some (head_text (described_by family)) };
 
     fn fmt<W: fmt::Write>(&self, f: &mut fmt::Formatter<W>) -> fmt::Result {
         let help = HelpLine(*self);
