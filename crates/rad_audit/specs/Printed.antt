@@ -5,6 +5,7 @@ use Rattle.rad_ledger.specs.Printed.{gap_text, reason_text, verdict_text}
 use Rattle.rad_ledger.specs.declared.reason.Reason.TheVariants.{WrongSum}
 use Rattle.rad_audit.specs.Shown.{word_text}
 use Rattle.rad_audit.specs.declared.printing.Place.{Place}
+use Rattle.rad_audit.specs.declared.printing.LaneCounts.{LaneCounts}
 use Rattle.rad_audit.specs.declared.printing.LaneName.{LaneName}
 use Rattle.rad_audit.specs.declared.printing.Finding.{Finding}
 use Rattle.rad_audit.specs.declared.printing.Finding.TheVariants as finding
