@@ -44,10 +44,12 @@ def main():
     lines = pathlib.Path(sys.argv[1], "results.jsonl").read_text().splitlines()
     results = [json.loads(line) for line in lines]
     drawn = draw(results)
-    PAGE.write_text(with_tables(PAGE.read_text(), tables.made(results), drawn))
+    page = with_tables(PAGE.read_text(), tables.made(results), drawn)
+    PAGE.write_text(page)
     PICTURES.mkdir(exist_ok=True)
     for name, picture in drawn.items():
-        (PICTURES / name).write_text(picture)
+        if f"performance/{name}" in page:
+            (PICTURES / name).write_text(picture)
     print(f"{PAGE.relative_to(DOCS.parent)} has the figures of {len(results)} measurements")
 
 

@@ -1,11 +1,11 @@
 //! The configuration in a file.
 
 ghost use Rattle.std.specs.Prelude.{◌≡◌, ◌≤◌, ℕ, List, length, IfErr, IfOk, Ok};
-ghost use Rattle.rad_console.specs.Configurations.{ReadsOctets};
+ghost use Rattle.rad_files.specs.Configurations.{ReadsOctets};
 ghost use Rattle.config_json.specs.Statuses.{status_of};
 
 use crate::faults::Fault;
-use rad_console::{read_at_most, read_configuration};
+use rad_files::{read_at_most, read_configuration};
 use rad_realms::Config;
 use std::alloc::Global;
 use std::fs;

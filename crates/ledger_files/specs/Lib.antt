@@ -3,6 +3,7 @@ pub mod Calendar
 pub mod Chains
 pub mod Files
 pub mod FileNames
+pub mod Keeping
 pub mod Moments
 pub mod Passing
 pub mod Rotation

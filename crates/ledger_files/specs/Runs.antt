@@ -104,15 +104,6 @@ pub record IsLeft (batch : Batch) (left : List (List ℕ)) (written : ℕ) : Typ
   pub left_is : left ≡ drop batch.whole held
   pub written_is : batch.start + written ≡ batch.done
 
--- The lines are the same, and as many of them are counted as written whole.
-pub record HoldsSame {D : Type 0} (old new : RunFiles D) : Type 0 where
-  pub first : new.first.octets ≡ old.first.octets
-  pub octets : new.batch.octets ≡ old.batch.octets
-  pub ends : new.batch.ends ≡ old.batch.ends
-  pub heads : new.batch.heads ≡ old.batch.heads
-  pub whole : new.batch.whole ≡ old.batch.whole
-  pub last : new.last ≡ old.last
-
 -- How far a line is written.
 abbrev pub begun_of : Pending → Begun
 begun_of line = record { octets = line.octets.items; done = line.done; is_passed = line.is_passed }

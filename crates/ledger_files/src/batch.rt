@@ -53,6 +53,7 @@ impl Batch {
     ghost use Rattle.ledger_files.specs.Batches.{HoldsLines, IsHeadOf};
     ghost use Rattle.ledger_files.specs.Chains.{chain_of};
     ghost use Rattle.ledger_files.specs.Files.{wrote};
+    ghost use Rattle.ledger_files.specs.Keeping.{KeepsLines};
 
     /// Makes an empty batch, with room for so many octets and lines.
     ///
@@ -152,7 +153,7 @@ impl Batch {
     pub fn digest<R: Threads + Sync>(&mut self, rt: &R) -> Result<(), AllocError>
         ensures lines { (lines : List (List ℕ)) → HoldsLines self.old lines → HoldsLines self.new lines }
         ensures all { OnOk result (vec_len self.new.digests ≡ vec_len self.old.ends) }
-        ensures same { (self.new.done ≡ self.old.done) × (self.new.whole ≡ self.old.whole) × (self.new.octets ≡ self.old.octets) × (self.new.heads ≡ self.old.heads) × (self.new.ends ≡ self.old.ends) }
+        ensures same { (self.new.done ≡ self.old.done) × (self.new.whole ≡ self.old.whole) × KeepsLines self.old self.new }
     {
         let octets = self.octets.as_slice();
         let ends = self.ends.as_slice();
@@ -171,7 +172,7 @@ impl Batch {
         ensures written { (self.old.done ≤ self.new.done) × (D.files disk.new ≡ wrote (D.files disk.old) (slice_range self.old.octets.items self.old.done self.new.done)) }
         ensures all { OnOk result (self.new.done ≡ vec_len self.old.octets) }
         ensures whole { self.new.whole ≡ self.old.whole }
-        ensures same { (self.new.octets ≡ self.old.octets) × (self.new.heads ≡ self.old.heads) × (self.new.ends ≡ self.old.ends) }
+        ensures same { KeepsLines self.old self.new }
         ensures none { self.old.done ≡ vec_len self.old.octets → (disk.new ≡ disk.old) × IsOk result }
     {
         let (done, outcome) = write_rest(disk, self.octets.as_slice(), self.done);
@@ -183,7 +184,7 @@ impl Batch {
     #[tactic(auto, using(crate::proofs::Ends::holds_same, crate::proofs::Ends::holds_passed))]
     pub fn pass_line(&mut self, chain: &mut Chain) -> Option<LineHead>
         ensures lines { (lines : List (List ℕ)) → HoldsLines self.old lines → HoldsLines self.new lines }
-        ensures same { (self.new.done ≡ self.old.done) × (self.new.octets ≡ self.old.octets) × (self.new.heads ≡ self.old.heads) × (self.new.ends ≡ self.old.ends) }
+        ensures same { (self.new.done ≡ self.old.done) × KeepsLines self.old self.new }
         ensures passed { MatchOption result (self.new.whole ≡ self.old.whole) (λ head. (self.new.whole ≡ self.old.whole + 1) × IsHeadOf self.old head × (slice_index self.old.ends.items self.old.whole ≤ self.old.done)) }
         ensures rest { MatchOption result (self.old.whole < vec_len self.old.ends → self.old.done < slice_index self.old.ends.items self.old.whole) (λ _. Unit {0}) }
         ensures none { MatchOption result (chain.new ≡ chain.old) (λ _. Unit {0}) }

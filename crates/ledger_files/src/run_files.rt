@@ -5,7 +5,8 @@ ghost use Rattle.ledger_files.specs.Batches.{HoldsLines, IsHeadOf};
 ghost use Rattle.ledger_files.specs.Chains.{chain_of};
 ghost use Rattle.ledger_files.specs.Files.{IsOpen, synced, wrote};
 ghost use Rattle.ledger_files.specs.Passing.{HasPassed, newly_passed};
-ghost use Rattle.ledger_files.specs.Runs.{HoldsSame, IsRun};
+ghost use Rattle.ledger_files.specs.Keeping.{KeepsAll, KeepsFile, KeepsLines};
+ghost use Rattle.ledger_files.specs.Runs.{IsRun};
 
 use crate::batch::{Batch, LineHead};
 use crate::chain::{Chain, SUM_OCTETS};
@@ -153,7 +154,7 @@ impl<D: LedgerDisk + Drop> RunFiles<D> {
     ///
     /// `Gone` if no file is open or it is not at its path any more, and that of [`LedgerDisk::write`].
     pub fn write(&mut self) -> Result<(), DiskFault>
-        ensures same { HoldsSame self.old self.new × (self.new.last.done ≡ self.old.last.done) }
+        ensures same { KeepsAll self.old self.new × (self.new.last.done ≡ self.old.last.done) }
         ensures begun { OnOk result (IsTrue self.new.first.is_passed) }
         ensures chain { (lines : List (List ℕ)) → HasPassed self.old lines → HasPassed self.new (lines ++ newly_passed self.old.first self.new.first) }
         ensures written { (self.old.first.done ≤ self.new.first.done) × (self.old.batch.done ≤ self.new.batch.done) × (D.files self.new.disk ≡ wrote (wrote (D.files self.old.disk) (slice_range self.old.first.octets.items self.old.first.done self.new.first.done)) (slice_range self.old.batch.octets.items self.old.batch.done self.new.batch.done)) }
@@ -177,8 +178,8 @@ impl<D: LedgerDisk + Drop> RunFiles<D> {
     ///
     /// That of [`Batch::digest`].
     pub fn digest<R: Threads + Sync>(&mut self, rt: &R) -> Result<(), AllocError>
-        ensures same { (self.new.disk ≡ self.old.disk) × (self.new.first ≡ self.old.first) × (self.new.last ≡ self.old.last) × (self.new.chain ≡ self.old.chain) }
-        ensures batch { (self.new.batch.done ≡ self.old.batch.done) × (self.new.batch.whole ≡ self.old.batch.whole) × (self.new.batch.octets ≡ self.old.batch.octets) × (self.new.batch.heads ≡ self.old.batch.heads) × (self.new.batch.ends ≡ self.old.batch.ends) }
+        ensures same { KeepsFile self.old self.new × (self.new.chain ≡ self.old.chain) }
+        ensures batch { (self.new.batch.done ≡ self.old.batch.done) × (self.new.batch.whole ≡ self.old.batch.whole) × KeepsLines self.old.batch self.new.batch }
         ensures all { OnOk result (vec_len self.new.batch.digests ≡ vec_len self.old.batch.ends) }
         ensures run { (lines : List (List ℕ)) → IsRun (D.files self.old.disk) self.old lines → IsRun (D.files self.new.disk) self.new lines }
     {
@@ -189,7 +190,7 @@ impl<D: LedgerDisk + Drop> RunFiles<D> {
     /// Passes the next line of an entry as written whole, if it is, and returns what it is of. It is then the next one of
     /// the chain.
     pub fn pass_line(&mut self) -> Option<LineHead>
-        ensures same { (self.new.disk ≡ self.old.disk) × (self.new.first ≡ self.old.first) × (self.new.last ≡ self.old.last) × (self.new.batch.done ≡ self.old.batch.done) × (self.new.batch.octets ≡ self.old.batch.octets) × (self.new.batch.heads ≡ self.old.batch.heads) × (self.new.batch.ends ≡ self.old.batch.ends) }
+        ensures same { KeepsFile self.old self.new × (self.new.batch.done ≡ self.old.batch.done) × KeepsLines self.old.batch self.new.batch }
         ensures passed { MatchOption result (self.new.batch.whole ≡ self.old.batch.whole) (λ head. (self.new.batch.whole ≡ self.old.batch.whole + 1) × IsHeadOf self.old.batch head × (slice_index self.old.batch.ends.items self.old.batch.whole ≤ self.old.batch.done)) }
         ensures rest { MatchOption result (IfSome (D.files self.old.disk) (λ files. IsOpen files → IsTrue self.old.first.is_passed → self.old.batch.whole < vec_len self.old.batch.ends → self.old.batch.done < slice_index self.old.batch.ends.items self.old.batch.whole)) (λ _. Unit {0}) }
         ensures none { MatchOption result (self.new.chain ≡ self.old.chain) (λ _. Unit {0}) }

@@ -77,6 +77,9 @@ listed value a b c name xs ys is same e p = subst (λ zs. AddsSlots a c ((name, 
 pub number_is : {a b : Written} {name : List ℕ} (m n : ℕ) → m ≡ n → AddsSlots a b ((name, Some (number_value m)) ∷ []) → AddsSlots a b ((name, Some (number_value n)) ∷ [])
 number_is {a} {b} {name} m n e p = subst (λ (k : ℕ). AddsSlots a b ((name, Some (number_value k)) ∷ [])) e p
 
+pub number_last : {E : Type 0} (r : Result (Unit {0}) E) (a b : Written) (name : List ℕ) (m n : ℕ) → m ≡ n → OnOk r (AddsSlots a b ((name, Some (number_value m)) ∷ [])) → OnOk r (AddsSlots a b ((name, Some (number_value n)) ∷ []))
+number_last r a b name m n e p = subst (λ (k : ℕ). OnOk r (AddsSlots a b ((name, Some (number_value k)) ∷ []))) e p
+
 pub octets_are : {a b : Written} {name : List ℕ} (xs ys : List ℕ) → xs ≡ ys → AddsSlots a b ((name, Some (octets_value xs)) ∷ []) → AddsSlots a b ((name, Some (octets_value ys)) ∷ [])
 octets_are {a} {b} {name} xs ys e p = subst (λ (zs : List ℕ). AddsSlots a b ((name, Some (octets_value zs)) ∷ [])) e p
 

@@ -1,5 +1,5 @@
 -- The value of each line nests no deeper than a reader reads, and has no key twice.
-use Rattle.std.proofs.Common.{ℕ, ◌+◌, ◌≤◌, List, [], ◌∷◌, Bool, true, false, cond, Option, Some, None, option_map, refl, arith}
+use Rattle.std.proofs.Common.{ℕ, ◌+◌, ◌≤◌, List, [], ◌∷◌, ◌++◌, codes, Bool, true, false, cond, Option, Some, None, option_map, refl, arith}
 use Rattle.std.specs.Prelude.{option_copied}
 use Rattle.std.specs.Str.{is_utf8}
 use Rattle.json.specs.Json.{Json, array, string}
@@ -7,13 +7,14 @@ use Rattle.json.specs.Strict.{ItemsHaveUniqueKeys}
 use Rattle.json.specs.Tree.{items_depth}
 use Rattle.rad_ledger.specs.declared.entry.Entry.{Entry}
 use Rattle.rad_ledger.specs.declared.left.Left.{Left}
+use Rattle.rad_ledger.specs.declared.line_request.LineRequest.{LineRequest}
 use Rattle.ledger_lines.specs.declared.begin.Begin.{Begin}
-use Rattle.ledger_lines.specs.declared.begin.End.{End}
+use Rattle.ledger_lines.specs.declared.end.End.{End}
 use Rattle.ledger_lines.specs.declared.begin.FileBefore.{FileBefore}
-use Rattle.ledger_lines.specs.declared.begin.LaneCount.{LaneCount}
-use Rattle.ledger_lines.specs.declared.begin.LaneStart.{LaneStart}
-use Rattle.ledger_lines.specs.Written.{begin_slots, begin_value, count_slots, count_value, digits_if_any, end_slots, end_value, entry_slots, entry_value, file_slots, file_value, items_of, left_slots, left_value, number_value, octets_value, start_slots, start_value, text_if_any}
-use Rattle.ledger_lines.proofs.Members.{IsFine, MayBeFine, fine_object}
+use Rattle.ledger_lines.specs.declared.end.LaneCount.{LaneCount}
+use Rattle.ledger_lines.specs.declared.lane_start.LaneStart.{LaneStart}
+use Rattle.ledger_lines.specs.Written.{begin_slots, begin_value, count_slots, count_value, digits_if_any, end_slots, end_value, entry_slots, entry_value, file_slots, file_value, items_of, lane_slots, left_slots, left_value, number_value, octets_value, packet_slots, request_slots, start_slots, start_value, state_slots, text_if_any, words_slots}
+use Rattle.ledger_lines.proofs.Members.{AreFine, IsFine, MayBeFine, fine_both, fine_object}
 
 any_number : (most : ℕ) (its : Option ℕ) → MayBeFine most (option_map number_value its)
 any_number most None = tt
@@ -90,108 +91,39 @@ fine_begin begin =
       ),
     ))
 
-pub fine_entry : (e : Entry) → IsFine 128 (entry_value e)
-fine_entry e =
-    deeper 1 128 (entry_value e) (omega arith)
-    (fine_object 0 (entry_slots e) refl (
-      (omega arith, tt),
+-- text and numbers
+plain : MayBeFine 0 (Some (string []))
+plain = (omega arith, tt)
+
+fine_lane : (kind : List ℕ) (about : LineRequest) → AreFine 0 (lane_slots kind about)
+fine_lane kind about = (plain, (plain, (plain, (plain, (plain, tt)))))
+
+fine_words : (about : LineRequest) → AreFine 0 (words_slots (codes "realm") (codes "realm_octets") (option_copied about.realm) ++ (words_slots (codes "session") (codes "session_octets") (option_copied about.session) ++ (codes "status", option_map number_value about.status) ∷ words_slots (codes "user") (codes "user_octets") (option_copied about.user)))
+fine_words about =
+    let status = any_number 0 about.status in (
+      any_words (option_copied about.realm),
       (
-        (omega arith, tt),
+        any_digits (option_copied about.realm),
         (
-          (omega arith, tt),
-          (
-            (omega arith, tt),
-            (
-              (omega arith, tt),
-              (
-                (omega arith, tt),
-                (
-                  (omega arith, tt),
-                  (
-                    (omega arith, tt),
-                    (
-                      (omega arith, tt),
-                      (
-                        (omega arith, tt),
-                        (
-                          (omega arith, tt),
-                          (
-                            any_words (option_copied e.realm),
-                            (
-                              any_digits (option_copied e.realm),
-                              (
-                                any_words (option_copied e.session),
-                                (any_digits (option_copied e.session), (any_number 0 e.status, (any_words (option_copied e.user), (any_digits (option_copied e.user), ((omega arith, tt), ((omega arith, tt), ((omega arith, tt), tt))))))),
-                              ),
-                            ),
-                          ),
-                        ),
-                      ),
-                    ),
-                  ),
-                ),
-              ),
-            ),
-          ),
+          any_words (option_copied about.session),
+          (any_digits (option_copied about.session), (status, (any_words (option_copied about.user), (any_digits (option_copied about.user), tt)))),
         ),
       ),
-    ))
+    )
+
+fine_request : (about : LineRequest) → AreFine 0 (request_slots about)
+fine_request about = (plain, (plain, (plain, (plain, (plain, fine_words about)))))
+
+pub fine_entry : (e : Entry) → IsFine 128 (entry_value e)
+fine_entry e =
+    let packets : AreFine 0 (packet_slots e) = (plain, (plain, (plain, tt))) in
+    let behind = fine_both 0 (request_slots e.about) (packet_slots e) (fine_request e.about) packets in
+    deeper 1 128 (entry_value e) (omega arith)
+    (fine_object 0 (entry_slots e) refl (fine_both 0 (lane_slots (codes "entry") e.about) ((codes "serial", Some (number_value e.serial)) ∷ (request_slots e.about ++ packet_slots e)) (fine_lane (codes "entry") e.about) (plain, behind)))
 
 pub fine_left : (left : Left) → IsFine 128 (left_value left)
 fine_left left =
+    let states : AreFine 0 (state_slots left) = (plain, (any_number 0 left.sendings, (any_text 0 (option_copied left.accepted), (plain, tt)))) in
+    let behind = fine_both 0 (request_slots left.about) (state_slots left) (fine_request left.about) states in
     deeper 1 128 (left_value left) (omega arith)
-    (fine_object 0 (left_slots left) refl (
-      (omega arith, tt),
-      (
-        (omega arith, tt),
-        (
-          (omega arith, tt),
-          (
-            (omega arith, tt),
-            (
-              (omega arith, tt),
-              (
-                (omega arith, tt),
-                (
-                  (omega arith, tt),
-                  (
-                    (omega arith, tt),
-                    (
-                      (omega arith, tt),
-                      (
-                        (omega arith, tt),
-                        (
-                          any_words (option_copied left.realm),
-                          (
-                            any_digits (option_copied left.realm),
-                            (
-                              any_words (option_copied left.session),
-                              (
-                                any_digits (option_copied left.session),
-                                (
-                                  any_number 0 left.status,
-                                  (
-                                    any_words (option_copied left.user),
-                                    (
-                                      any_digits (option_copied left.user),
-                                      (
-                                        (omega arith, tt),
-                                        (any_number 0 left.sendings, (any_text 0 (option_copied left.accepted), ((omega arith, tt), tt))),
-                                      ),
-                                    ),
-                                  ),
-                                ),
-                              ),
-                            ),
-                          ),
-                        ),
-                      ),
-                    ),
-                  ),
-                ),
-              ),
-            ),
-          ),
-        ),
-      ),
-    ))
+    (fine_object 0 (left_slots left) refl (fine_both 0 (lane_slots (codes "left") left.about) (request_slots left.about ++ state_slots left) (fine_lane (codes "left") left.about) behind))

@@ -5,16 +5,17 @@ use Rattle.std.specs.Bool.{IsTrue}
 use Rattle.std.proofs.Math.Bool.{beq}
 use Rattle.json.specs.Json.{Json, number}
 use Rattle.json.specs.Find.{get}
-use Rattle.ledger_lines.specs.Lines.{Denies, HasText, HasNumber, HasOctets, MayHaveNumber, MayHaveWords, HasOnly, keys_of_entry, HasRun, HasTime, HasClient, HasAuthenticator, HasLanes, HasState, MayHaveTime, keys_of_left, HasArray, MayHaveSum, MayHaveFile, keys_of_begin, IsFileBefore, IsHidden, IsEntry, IsLeft, IsBegin, IsEnd, IsLaneStart, IsLaneCount}
+use Rattle.ledger_lines.specs.Lines.{Denies, HasText, HasNumber, HasOctets, IsAbout, MayHaveNumber, MayHaveWords, HasOnly, keys_of_entry, HasRun, HasTime, HasClient, HasAuthenticator, HasLanes, HasState, MayHaveTime, keys_of_left, HasArray, MayHaveSum, MayHaveFile, keys_of_begin, IsFileBefore, IsHidden, IsEntry, IsLeft, IsBegin, IsEnd, IsLaneStart, IsLaneCount}
 use Rattle.rad_ledger.specs.declared.entry.Entry.{Entry}
 use Rattle.rad_ledger.specs.declared.left.Left.{Left}
-use Rattle.rad_ledger.specs.declared.left.LeftState.{LeftState}
+use Rattle.rad_desk.specs.declared.leaving.LeftState.{LeftState}
+use Rattle.rad_ledger.specs.declared.line_request.LineRequest.{LineRequest}
 use Rattle.ledger_lines.specs.declared.begin.Begin.{Begin}
-use Rattle.ledger_lines.specs.declared.begin.End.{End}
+use Rattle.ledger_lines.specs.declared.end.End.{End}
 use Rattle.ledger_lines.specs.declared.begin.FileBefore.{FileBefore}
-use Rattle.ledger_lines.specs.declared.begin.Hidden.{Hidden}
-use Rattle.ledger_lines.specs.declared.begin.LaneStart.{LaneStart}
-use Rattle.ledger_lines.specs.declared.begin.LaneCount.{LaneCount}
+use Rattle.ledger_lines.specs.declared.hidden.Hidden.{Hidden}
+use Rattle.ledger_lines.specs.declared.lane_start.LaneStart.{LaneStart}
+use Rattle.ledger_lines.specs.declared.end.LaneCount.{LaneCount}
 use Rattle.ledger_lines.specs.declared.faults.LineFault.{LineFault}
 use Rattle.ledger_lines.specs.declared.faults.LineFault.TheVariants.{NotALine, OutOfMemory}
 
@@ -32,67 +33,80 @@ pub passed_on : (there : Type 0) {T : Type 0} (result : Result T LineFault) (P :
 passed_on there (Ok x) P fault e d = absurd e
 passed_on there (Err f) P fault e d = subst (λ x. Denies x there) (sym e) d
 
+-- And so what has that: a fault of what A is is passed on of what B is.
+abbrev pub Passes : {T : Type 0} → LineFault → Type 0 → Type 0 → (T → Type 0) → Type 0
+Passes {T} fault A B P = (result : Result T LineFault) → IsErrAnd result (λ f. f ≡ fault) → Denies fault A → MatchResult result P (λ f. Denies f B)
+
+pub passed_with : (A B : Type 0) → (B → A) → {T : Type 0} (P : T → Type 0) (fault : LineFault) → Passes fault A B P
+passed_with A B has P fault result e d = passed_on B result P fault e (denied A B has fault d)
+
 -- A test that fails shows that its fact is not so.
 pub has_others : (b : Bool) (P : Type 0) → (IsTrue b ↔ P) → b ≡ false → ¬ P
 has_others b P f fails p = let holds : b ≡ true = f.1 p in cc
 
 module _ (value : Json) (fault : LineFault) where
+  abbrev pub IsAboutThere : Type 0
+  IsAboutThere = (x : LineRequest) × IsAbout value x
+
+  pub about_run : Passes fault ((x : ℕ) × HasRun value x) IsAboutThere (IsAbout value)
+  about_run = passed_with ((x : ℕ) × HasRun value x) IsAboutThere (λ p. (p.0.run, p.1.run)) (IsAbout value) fault
+
+  pub about_time : Passes fault ((x : List ℕ) × HasTime (codes "time") value x) IsAboutThere (IsAbout value)
+  about_time = passed_with ((x : List ℕ) × HasTime (codes "time") value x) IsAboutThere (λ p. (p.0.time.now, p.1.time)) (IsAbout value) fault
+
+  pub about_home : Passes fault ((x : List ℕ) × HasText (codes "home") value x) IsAboutThere (IsAbout value)
+  about_home = passed_with ((x : List ℕ) × HasText (codes "home") value x) IsAboutThere (λ p. (p.0.home.now, p.1.home)) (IsAbout value) fault
+
+  pub about_lane : Passes fault ((x : ℕ) × HasNumber (codes "lane") (2 ^ 16) value x) IsAboutThere (IsAbout value)
+  about_lane = passed_with ((x : ℕ) × HasNumber (codes "lane") (2 ^ 16) value x) IsAboutThere (λ p. (p.0.lane, p.1.lane)) (IsAbout value) fault
+
+  pub about_number : Passes fault ((x : ℕ) × HasNumber (codes "record") (2 ^ 64) value x) IsAboutThere (IsAbout value)
+  about_number = passed_with ((x : ℕ) × HasNumber (codes "record") (2 ^ 64) value x) IsAboutThere (λ p. (p.0.number, p.1.record_is)) (IsAbout value) fault
+
+  pub about_client : Passes fault ((x : List ℕ) × HasClient value x) IsAboutThere (IsAbout value)
+  about_client = passed_with ((x : List ℕ) × HasClient value x) IsAboutThere (λ p. (p.0.client, p.1.client)) (IsAbout value) fault
+
+  pub about_port : Passes fault ((x : ℕ) × HasNumber (codes "port") (2 ^ 16) value x) IsAboutThere (IsAbout value)
+  about_port = passed_with ((x : ℕ) × HasNumber (codes "port") (2 ^ 16) value x) IsAboutThere (λ p. (p.0.port, p.1.port)) (IsAbout value) fault
+
+  pub about_identifier : Passes fault ((x : ℕ) × HasNumber (codes "identifier") (2 ^ 8) value x) IsAboutThere (IsAbout value)
+  about_identifier = passed_with ((x : ℕ) × HasNumber (codes "identifier") (2 ^ 8) value x) IsAboutThere (λ p. (p.0.identifier, p.1.identifier)) (IsAbout value) fault
+
+  pub about_authenticator : Passes fault ((x : List ℕ) × HasAuthenticator value x) IsAboutThere (IsAbout value)
+  about_authenticator = passed_with ((x : List ℕ) × HasAuthenticator value x) IsAboutThere (λ p. (p.0.authenticator, p.1.authenticator)) (IsAbout value) fault
+
+  pub about_realm : Passes fault ((x : Option (List ℕ)) × MayHaveWords (codes "realm") (codes "realm_octets") value x) IsAboutThere (IsAbout value)
+  about_realm = passed_with ((x : Option (List ℕ)) × MayHaveWords (codes "realm") (codes "realm_octets") value x) IsAboutThere (λ p. (option_copied p.0.realm, p.1.realm)) (IsAbout value) fault
+
+  pub about_session : Passes fault ((x : Option (List ℕ)) × MayHaveWords (codes "session") (codes "session_octets") value x) IsAboutThere (IsAbout value)
+  about_session = passed_with ((x : Option (List ℕ)) × MayHaveWords (codes "session") (codes "session_octets") value x) IsAboutThere (λ p. (option_copied p.0.session, p.1.session)) (IsAbout value) fault
+
+  pub about_status : Passes fault ((x : Option ℕ) × MayHaveNumber (codes "status") (2 ^ 32) value x) IsAboutThere (IsAbout value)
+  about_status = passed_with ((x : Option ℕ) × MayHaveNumber (codes "status") (2 ^ 32) value x) IsAboutThere (λ p. (p.0.status, p.1.status)) (IsAbout value) fault
+
+  pub about_user : Passes fault ((x : Option (List ℕ)) × MayHaveWords (codes "user") (codes "user_octets") value x) IsAboutThere (IsAbout value)
+  about_user = passed_with ((x : Option (List ℕ)) × MayHaveWords (codes "user") (codes "user_octets") value x) IsAboutThere (λ p. (option_copied p.0.user, p.1.user)) (IsAbout value) fault
+
   abbrev pub IsEntryThere : Type 0
   IsEntryThere = (x : Entry) × IsEntry value x
 
   pub entry_members : ¬ HasOnly keys_of_entry value → ¬ IsEntryThere
   entry_members n p = n p.1.no_other
 
-  pub entry_run : Denies fault ((x : ℕ) × HasRun value x) → Denies fault IsEntryThere
-  entry_run = denied ((x : ℕ) × HasRun value x) IsEntryThere (λ p. (p.0.run, p.1.run)) fault
+  pub entry_about : Passes fault ((x : LineRequest) × IsAbout value x) IsEntryThere (IsEntry value)
+  entry_about = passed_with ((x : LineRequest) × IsAbout value x) IsEntryThere (λ p. (p.0.about, p.1.about)) (IsEntry value) fault
 
-  pub entry_time : Denies fault ((x : List ℕ) × HasTime (codes "time") value x) → Denies fault IsEntryThere
-  entry_time = denied ((x : List ℕ) × HasTime (codes "time") value x) IsEntryThere (λ p. (p.0.time.now, p.1.time)) fault
+  pub entry_serial : Passes fault ((x : ℕ) × HasNumber (codes "serial") (2 ^ 63) value x) IsEntryThere (IsEntry value)
+  entry_serial = passed_with ((x : ℕ) × HasNumber (codes "serial") (2 ^ 63) value x) IsEntryThere (λ p. (p.0.serial, p.1.serial)) (IsEntry value) fault
 
-  pub entry_home : Denies fault ((x : List ℕ) × HasText (codes "home") value x) → Denies fault IsEntryThere
-  entry_home = denied ((x : List ℕ) × HasText (codes "home") value x) IsEntryThere (λ p. (p.0.home.now, p.1.home)) fault
+  pub entry_sent : Passes fault ((x : List ℕ) × HasOctets (codes "sent") value x) IsEntryThere (IsEntry value)
+  entry_sent = passed_with ((x : List ℕ) × HasOctets (codes "sent") value x) IsEntryThere (λ p. (p.0.sent.now, p.1.sent)) (IsEntry value) fault
 
-  pub entry_lane : Denies fault ((x : ℕ) × HasNumber (codes "lane") (2 ^ 16) value x) → Denies fault IsEntryThere
-  entry_lane = denied ((x : ℕ) × HasNumber (codes "lane") (2 ^ 16) value x) IsEntryThere (λ p. (p.0.lane, p.1.lane)) fault
+  pub entry_reply : Passes fault ((x : List ℕ) × HasOctets (codes "reply") value x) IsEntryThere (IsEntry value)
+  entry_reply = passed_with ((x : List ℕ) × HasOctets (codes "reply") value x) IsEntryThere (λ p. (p.0.reply.now, p.1.reply)) (IsEntry value) fault
 
-  pub entry_serial : Denies fault ((x : ℕ) × HasNumber (codes "serial") (2 ^ 63) value x) → Denies fault IsEntryThere
-  entry_serial = denied ((x : ℕ) × HasNumber (codes "serial") (2 ^ 63) value x) IsEntryThere (λ p. (p.0.serial, p.1.serial)) fault
-
-  pub entry_record : Denies fault ((x : ℕ) × HasNumber (codes "record") (2 ^ 64) value x) → Denies fault IsEntryThere
-  entry_record = denied ((x : ℕ) × HasNumber (codes "record") (2 ^ 64) value x) IsEntryThere (λ p. (p.0.number, p.1.record_is)) fault
-
-  pub entry_client : Denies fault ((x : List ℕ) × HasClient value x) → Denies fault IsEntryThere
-  entry_client = denied ((x : List ℕ) × HasClient value x) IsEntryThere (λ p. (p.0.client, p.1.client)) fault
-
-  pub entry_port : Denies fault ((x : ℕ) × HasNumber (codes "port") (2 ^ 16) value x) → Denies fault IsEntryThere
-  entry_port = denied ((x : ℕ) × HasNumber (codes "port") (2 ^ 16) value x) IsEntryThere (λ p. (p.0.port, p.1.port)) fault
-
-  pub entry_identifier : Denies fault ((x : ℕ) × HasNumber (codes "identifier") (2 ^ 8) value x) → Denies fault IsEntryThere
-  entry_identifier = denied ((x : ℕ) × HasNumber (codes "identifier") (2 ^ 8) value x) IsEntryThere (λ p. (p.0.identifier, p.1.identifier)) fault
-
-  pub entry_authenticator : Denies fault ((x : List ℕ) × HasAuthenticator value x) → Denies fault IsEntryThere
-  entry_authenticator = denied ((x : List ℕ) × HasAuthenticator value x) IsEntryThere (λ p. (p.0.authenticator, p.1.authenticator)) fault
-
-  pub entry_sent : Denies fault ((x : List ℕ) × HasOctets (codes "sent") value x) → Denies fault IsEntryThere
-  entry_sent = denied ((x : List ℕ) × HasOctets (codes "sent") value x) IsEntryThere (λ p. (p.0.sent.now, p.1.sent)) fault
-
-  pub entry_reply : Denies fault ((x : List ℕ) × HasOctets (codes "reply") value x) → Denies fault IsEntryThere
-  entry_reply = denied ((x : List ℕ) × HasOctets (codes "reply") value x) IsEntryThere (λ p. (p.0.reply.now, p.1.reply)) fault
-
-  pub entry_response : Denies fault ((x : List ℕ) × HasOctets (codes "response") value x) → Denies fault IsEntryThere
-  entry_response = denied ((x : List ℕ) × HasOctets (codes "response") value x) IsEntryThere (λ p. (p.0.response.now, p.1.response)) fault
-
-  pub entry_realm : Denies fault ((x : Option (List ℕ)) × MayHaveWords (codes "realm") (codes "realm_octets") value x) → Denies fault IsEntryThere
-  entry_realm = denied ((x : Option (List ℕ)) × MayHaveWords (codes "realm") (codes "realm_octets") value x) IsEntryThere (λ p. (option_copied p.0.realm, p.1.realm)) fault
-
-  pub entry_session : Denies fault ((x : Option (List ℕ)) × MayHaveWords (codes "session") (codes "session_octets") value x) → Denies fault IsEntryThere
-  entry_session = denied ((x : Option (List ℕ)) × MayHaveWords (codes "session") (codes "session_octets") value x) IsEntryThere (λ p. (option_copied p.0.session, p.1.session)) fault
-
-  pub entry_status : Denies fault ((x : Option ℕ) × MayHaveNumber (codes "status") (2 ^ 32) value x) → Denies fault IsEntryThere
-  entry_status = denied ((x : Option ℕ) × MayHaveNumber (codes "status") (2 ^ 32) value x) IsEntryThere (λ p. (p.0.status, p.1.status)) fault
-
-  pub entry_user : Denies fault ((x : Option (List ℕ)) × MayHaveWords (codes "user") (codes "user_octets") value x) → Denies fault IsEntryThere
-  entry_user = denied ((x : Option (List ℕ)) × MayHaveWords (codes "user") (codes "user_octets") value x) IsEntryThere (λ p. (option_copied p.0.user, p.1.user)) fault
+  pub entry_response : Passes fault ((x : List ℕ) × HasOctets (codes "response") value x) IsEntryThere (IsEntry value)
+  entry_response = passed_with ((x : List ℕ) × HasOctets (codes "response") value x) IsEntryThere (λ p. (p.0.response.now, p.1.response)) (IsEntry value) fault
 
   abbrev pub IsLeftThere : Type 0
   IsLeftThere = (x : Left) × IsLeft value x
@@ -100,56 +114,20 @@ module _ (value : Json) (fault : LineFault) where
   pub left_members : ¬ HasOnly keys_of_left value → ¬ IsLeftThere
   left_members n p = n p.1.no_other
 
-  pub left_run : Denies fault ((x : ℕ) × HasRun value x) → Denies fault IsLeftThere
-  left_run = denied ((x : ℕ) × HasRun value x) IsLeftThere (λ p. (p.0.run, p.1.run)) fault
+  pub left_about : Passes fault ((x : LineRequest) × IsAbout value x) IsLeftThere (IsLeft value)
+  left_about = passed_with ((x : LineRequest) × IsAbout value x) IsLeftThere (λ p. (p.0.about, p.1.about)) (IsLeft value) fault
 
-  pub left_time : Denies fault ((x : List ℕ) × HasTime (codes "time") value x) → Denies fault IsLeftThere
-  left_time = denied ((x : List ℕ) × HasTime (codes "time") value x) IsLeftThere (λ p. (p.0.time.now, p.1.time)) fault
+  pub left_state : Passes fault ((x : LeftState) × HasState value x) IsLeftThere (IsLeft value)
+  left_state = passed_with ((x : LeftState) × HasState value x) IsLeftThere (λ p. (p.0.state, p.1.state)) (IsLeft value) fault
 
-  pub left_home : Denies fault ((x : List ℕ) × HasText (codes "home") value x) → Denies fault IsLeftThere
-  left_home = denied ((x : List ℕ) × HasText (codes "home") value x) IsLeftThere (λ p. (p.0.home.now, p.1.home)) fault
+  pub left_sendings : Passes fault ((x : Option ℕ) × MayHaveNumber (codes "sendings") (2 ^ 32) value x) IsLeftThere (IsLeft value)
+  left_sendings = passed_with ((x : Option ℕ) × MayHaveNumber (codes "sendings") (2 ^ 32) value x) IsLeftThere (λ p. (p.0.sendings, p.1.sendings)) (IsLeft value) fault
 
-  pub left_lane : Denies fault ((x : ℕ) × HasNumber (codes "lane") (2 ^ 16) value x) → Denies fault IsLeftThere
-  left_lane = denied ((x : ℕ) × HasNumber (codes "lane") (2 ^ 16) value x) IsLeftThere (λ p. (p.0.lane, p.1.lane)) fault
+  pub left_accepted : Passes fault ((x : Option (List ℕ)) × MayHaveTime (codes "accepted") value x) IsLeftThere (IsLeft value)
+  left_accepted = passed_with ((x : Option (List ℕ)) × MayHaveTime (codes "accepted") value x) IsLeftThere (λ p. (option_copied p.0.accepted, p.1.accepted)) (IsLeft value) fault
 
-  pub left_number : Denies fault ((x : ℕ) × HasNumber (codes "record") (2 ^ 64) value x) → Denies fault IsLeftThere
-  left_number = denied ((x : ℕ) × HasNumber (codes "record") (2 ^ 64) value x) IsLeftThere (λ p. (p.0.number, p.1.record_is)) fault
-
-  pub left_client : Denies fault ((x : List ℕ) × HasClient value x) → Denies fault IsLeftThere
-  left_client = denied ((x : List ℕ) × HasClient value x) IsLeftThere (λ p. (p.0.client, p.1.client)) fault
-
-  pub left_port : Denies fault ((x : ℕ) × HasNumber (codes "port") (2 ^ 16) value x) → Denies fault IsLeftThere
-  left_port = denied ((x : ℕ) × HasNumber (codes "port") (2 ^ 16) value x) IsLeftThere (λ p. (p.0.port, p.1.port)) fault
-
-  pub left_identifier : Denies fault ((x : ℕ) × HasNumber (codes "identifier") (2 ^ 8) value x) → Denies fault IsLeftThere
-  left_identifier = denied ((x : ℕ) × HasNumber (codes "identifier") (2 ^ 8) value x) IsLeftThere (λ p. (p.0.identifier, p.1.identifier)) fault
-
-  pub left_authenticator : Denies fault ((x : List ℕ) × HasAuthenticator value x) → Denies fault IsLeftThere
-  left_authenticator = denied ((x : List ℕ) × HasAuthenticator value x) IsLeftThere (λ p. (p.0.authenticator, p.1.authenticator)) fault
-
-  pub left_realm : Denies fault ((x : Option (List ℕ)) × MayHaveWords (codes "realm") (codes "realm_octets") value x) → Denies fault IsLeftThere
-  left_realm = denied ((x : Option (List ℕ)) × MayHaveWords (codes "realm") (codes "realm_octets") value x) IsLeftThere (λ p. (option_copied p.0.realm, p.1.realm)) fault
-
-  pub left_session : Denies fault ((x : Option (List ℕ)) × MayHaveWords (codes "session") (codes "session_octets") value x) → Denies fault IsLeftThere
-  left_session = denied ((x : Option (List ℕ)) × MayHaveWords (codes "session") (codes "session_octets") value x) IsLeftThere (λ p. (option_copied p.0.session, p.1.session)) fault
-
-  pub left_status : Denies fault ((x : Option ℕ) × MayHaveNumber (codes "status") (2 ^ 32) value x) → Denies fault IsLeftThere
-  left_status = denied ((x : Option ℕ) × MayHaveNumber (codes "status") (2 ^ 32) value x) IsLeftThere (λ p. (p.0.status, p.1.status)) fault
-
-  pub left_user : Denies fault ((x : Option (List ℕ)) × MayHaveWords (codes "user") (codes "user_octets") value x) → Denies fault IsLeftThere
-  left_user = denied ((x : Option (List ℕ)) × MayHaveWords (codes "user") (codes "user_octets") value x) IsLeftThere (λ p. (option_copied p.0.user, p.1.user)) fault
-
-  pub left_state : Denies fault ((x : LeftState) × HasState value x) → Denies fault IsLeftThere
-  left_state = denied ((x : LeftState) × HasState value x) IsLeftThere (λ p. (p.0.state, p.1.state)) fault
-
-  pub left_sendings : Denies fault ((x : Option ℕ) × MayHaveNumber (codes "sendings") (2 ^ 32) value x) → Denies fault IsLeftThere
-  left_sendings = denied ((x : Option ℕ) × MayHaveNumber (codes "sendings") (2 ^ 32) value x) IsLeftThere (λ p. (p.0.sendings, p.1.sendings)) fault
-
-  pub left_accepted : Denies fault ((x : Option (List ℕ)) × MayHaveTime (codes "accepted") value x) → Denies fault IsLeftThere
-  left_accepted = denied ((x : Option (List ℕ)) × MayHaveTime (codes "accepted") value x) IsLeftThere (λ p. (option_copied p.0.accepted, p.1.accepted)) fault
-
-  pub left_request : Denies fault ((x : List ℕ) × HasOctets (codes "request") value x) → Denies fault IsLeftThere
-  left_request = denied ((x : List ℕ) × HasOctets (codes "request") value x) IsLeftThere (λ p. (p.0.request.now, p.1.request)) fault
+  pub left_request : Passes fault ((x : List ℕ) × HasOctets (codes "request") value x) IsLeftThere (IsLeft value)
+  left_request = passed_with ((x : List ℕ) × HasOctets (codes "request") value x) IsLeftThere (λ p. (p.0.request.now, p.1.request)) (IsLeft value) fault
 
   abbrev pub IsBeginThere : Type 0
   IsBeginThere = (x : Begin) × IsBegin value x
@@ -157,26 +135,26 @@ module _ (value : Json) (fault : LineFault) where
   pub begin_members : ¬ HasOnly keys_of_begin value → ¬ IsBeginThere
   begin_members n p = n p.1.no_other
 
-  pub begin_run : Denies fault ((x : ℕ) × HasRun value x) → Denies fault IsBeginThere
-  begin_run = denied ((x : ℕ) × HasRun value x) IsBeginThere (λ p. (p.0.run, p.1.run)) fault
+  pub begin_run : Passes fault ((x : ℕ) × HasRun value x) IsBeginThere (IsBegin value)
+  begin_run = passed_with ((x : ℕ) × HasRun value x) IsBeginThere (λ p. (p.0.run, p.1.run)) (IsBegin value) fault
 
-  pub begin_time : Denies fault ((x : List ℕ) × HasTime (codes "time") value x) → Denies fault IsBeginThere
-  begin_time = denied ((x : List ℕ) × HasTime (codes "time") value x) IsBeginThere (λ p. (p.0.time.now, p.1.time)) fault
+  pub begin_time : Passes fault ((x : List ℕ) × HasTime (codes "time") value x) IsBeginThere (IsBegin value)
+  begin_time = passed_with ((x : List ℕ) × HasTime (codes "time") value x) IsBeginThere (λ p. (p.0.time.now, p.1.time)) (IsBegin value) fault
 
-  pub begin_version : Denies fault ((x : List ℕ) × HasText (codes "version") value x) → Denies fault IsBeginThere
-  begin_version = denied ((x : List ℕ) × HasText (codes "version") value x) IsBeginThere (λ p. (p.0.version.now, p.1.version)) fault
+  pub begin_version : Passes fault ((x : List ℕ) × HasText (codes "version") value x) IsBeginThere (IsBegin value)
+  begin_version = passed_with ((x : List ℕ) × HasText (codes "version") value x) IsBeginThere (λ p. (p.0.version.now, p.1.version)) (IsBegin value) fault
 
-  pub begin_file : Denies fault ((x : ℕ) × HasNumber (codes "file") (2 ^ 64) value x) → Denies fault IsBeginThere
-  begin_file = denied ((x : ℕ) × HasNumber (codes "file") (2 ^ 64) value x) IsBeginThere (λ p. (p.0.file, p.1.file)) fault
+  pub begin_file : Passes fault ((x : ℕ) × HasNumber (codes "file") (2 ^ 64) value x) IsBeginThere (IsBegin value)
+  begin_file = passed_with ((x : ℕ) × HasNumber (codes "file") (2 ^ 64) value x) IsBeginThere (λ p. (p.0.file, p.1.file)) (IsBegin value) fault
 
-  pub begin_sum : Denies fault ((x : Option (List ℕ)) × MayHaveSum (codes "sum") value x) → Denies fault IsBeginThere
-  begin_sum = denied ((x : Option (List ℕ)) × MayHaveSum (codes "sum") value x) IsBeginThere (λ p. (p.0.sum, p.1.sum)) fault
+  pub begin_sum : Passes fault ((x : Option (List ℕ)) × MayHaveSum (codes "sum") value x) IsBeginThere (IsBegin value)
+  begin_sum = passed_with ((x : Option (List ℕ)) × MayHaveSum (codes "sum") value x) IsBeginThere (λ p. (p.0.sum, p.1.sum)) (IsBegin value) fault
 
-  pub begin_before : Denies fault ((x : Option FileBefore) × MayHaveFile value x) → Denies fault IsBeginThere
-  begin_before = denied ((x : Option FileBefore) × MayHaveFile value x) IsBeginThere (λ p. (p.0.before, p.1.before)) fault
+  pub begin_before : Passes fault ((x : Option FileBefore) × MayHaveFile value x) IsBeginThere (IsBegin value)
+  begin_before = passed_with ((x : Option FileBefore) × MayHaveFile value x) IsBeginThere (λ p. (p.0.before, p.1.before)) (IsBegin value) fault
 
-  pub begin_lanes : Denies fault ((x : List LaneStart) × HasLanes IsLaneStart value x) → Denies fault IsBeginThere
-  begin_lanes = denied ((x : List LaneStart) × HasLanes IsLaneStart value x) IsBeginThere (λ p. (p.0.lanes.items, p.1.lanes)) fault
+  pub begin_lanes : Passes fault ((x : List LaneStart) × HasLanes IsLaneStart value x) IsBeginThere (IsBegin value)
+  begin_lanes = passed_with ((x : List LaneStart) × HasLanes IsLaneStart value x) IsBeginThere (λ p. (p.0.lanes.items, p.1.lanes)) (IsBegin value) fault
 
   abbrev pub IsEndThere : Type 0
   IsEndThere = (x : End) × IsEnd value x
@@ -184,17 +162,17 @@ module _ (value : Json) (fault : LineFault) where
   pub end_members : ¬ HasOnly (codes "type" ∷ codes "run" ∷ codes "time" ∷ codes "sum" ∷ codes "lanes" ∷ []) value → ¬ IsEndThere
   end_members n p = n p.1.no_other
 
-  pub end_run : Denies fault ((x : ℕ) × HasRun value x) → Denies fault IsEndThere
-  end_run = denied ((x : ℕ) × HasRun value x) IsEndThere (λ p. (p.0.run, p.1.run)) fault
+  pub end_run : Passes fault ((x : ℕ) × HasRun value x) IsEndThere (IsEnd value)
+  end_run = passed_with ((x : ℕ) × HasRun value x) IsEndThere (λ p. (p.0.run, p.1.run)) (IsEnd value) fault
 
-  pub end_time : Denies fault ((x : List ℕ) × HasTime (codes "time") value x) → Denies fault IsEndThere
-  end_time = denied ((x : List ℕ) × HasTime (codes "time") value x) IsEndThere (λ p. (p.0.time.now, p.1.time)) fault
+  pub end_time : Passes fault ((x : List ℕ) × HasTime (codes "time") value x) IsEndThere (IsEnd value)
+  end_time = passed_with ((x : List ℕ) × HasTime (codes "time") value x) IsEndThere (λ p. (p.0.time.now, p.1.time)) (IsEnd value) fault
 
-  pub end_sum : Denies fault ((x : Option (List ℕ)) × MayHaveSum (codes "sum") value x) → Denies fault IsEndThere
-  end_sum = denied ((x : Option (List ℕ)) × MayHaveSum (codes "sum") value x) IsEndThere (λ p. (p.0.sum, p.1.sum)) fault
+  pub end_sum : Passes fault ((x : Option (List ℕ)) × MayHaveSum (codes "sum") value x) IsEndThere (IsEnd value)
+  end_sum = passed_with ((x : Option (List ℕ)) × MayHaveSum (codes "sum") value x) IsEndThere (λ p. (p.0.sum, p.1.sum)) (IsEnd value) fault
 
-  pub end_lanes : Denies fault ((x : List LaneCount) × HasLanes IsLaneCount value x) → Denies fault IsEndThere
-  end_lanes = denied ((x : List LaneCount) × HasLanes IsLaneCount value x) IsEndThere (λ p. (p.0.lanes.items, p.1.lanes)) fault
+  pub end_lanes : Passes fault ((x : List LaneCount) × HasLanes IsLaneCount value x) IsEndThere (IsEnd value)
+  end_lanes = passed_with ((x : List LaneCount) × HasLanes IsLaneCount value x) IsEndThere (λ p. (p.0.lanes.items, p.1.lanes)) (IsEnd value) fault
 
   abbrev pub IsFileThere : Type 0
   IsFileThere = (x : FileBefore) × IsFileBefore value x
@@ -202,14 +180,14 @@ module _ (value : Json) (fault : LineFault) where
   pub file_members : ¬ HasOnly (codes "name" ∷ codes "octets" ∷ codes "sha256" ∷ []) value → ¬ IsFileThere
   file_members n p = n p.1.no_other
 
-  pub file_name : Denies fault ((x : List ℕ) × HasText (codes "name") value x) → Denies fault IsFileThere
-  file_name = denied ((x : List ℕ) × HasText (codes "name") value x) IsFileThere (λ p. (p.0.name.now, p.1.name)) fault
+  pub file_name : Passes fault ((x : List ℕ) × HasText (codes "name") value x) IsFileThere (IsFileBefore value)
+  file_name = passed_with ((x : List ℕ) × HasText (codes "name") value x) IsFileThere (λ p. (p.0.name.now, p.1.name)) (IsFileBefore value) fault
 
-  pub file_octets : Denies fault ((x : ℕ) × HasNumber (codes "octets") (2 ^ 64) value x) → Denies fault IsFileThere
-  file_octets = denied ((x : ℕ) × HasNumber (codes "octets") (2 ^ 64) value x) IsFileThere (λ p. (p.0.octets, p.1.octets)) fault
+  pub file_octets : Passes fault ((x : ℕ) × HasNumber (codes "octets") (2 ^ 64) value x) IsFileThere (IsFileBefore value)
+  file_octets = passed_with ((x : ℕ) × HasNumber (codes "octets") (2 ^ 64) value x) IsFileThere (λ p. (p.0.octets, p.1.octets)) (IsFileBefore value) fault
 
-  pub file_sha256 : Denies fault ((x : List ℕ) × HasArray (codes "sha256") 32 value x) → Denies fault IsFileThere
-  file_sha256 = denied ((x : List ℕ) × HasArray (codes "sha256") 32 value x) IsFileThere (λ p. (p.0.sha256, p.1.sha256)) fault
+  pub file_sha256 : Passes fault ((x : List ℕ) × HasArray (codes "sha256") 32 value x) IsFileThere (IsFileBefore value)
+  file_sha256 = passed_with ((x : List ℕ) × HasArray (codes "sha256") 32 value x) IsFileThere (λ p. (p.0.sha256, p.1.sha256)) (IsFileBefore value) fault
 
   abbrev pub IsHiddenThere : Type 0
   IsHiddenThere = (x : Hidden) × IsHidden value x
@@ -217,8 +195,8 @@ module _ (value : Json) (fault : LineFault) where
   pub hidden_members : ¬ HasOnly (codes "type" ∷ codes "sum" ∷ []) value → ¬ IsHiddenThere
   hidden_members n p = n p.1.no_other
 
-  pub hidden_sum : Denies fault ((x : List ℕ) × HasArray (codes "sum") 32 value x) → Denies fault IsHiddenThere
-  hidden_sum = denied ((x : List ℕ) × HasArray (codes "sum") 32 value x) IsHiddenThere (λ p. (p.0.sum, p.1.sum)) fault
+  pub hidden_sum : Passes fault ((x : List ℕ) × HasArray (codes "sum") 32 value x) IsHiddenThere (IsHidden value)
+  hidden_sum = passed_with ((x : List ℕ) × HasArray (codes "sum") 32 value x) IsHiddenThere (λ p. (p.0.sum, p.1.sum)) (IsHidden value) fault
 
   abbrev pub IsStartThere : Type 0
   IsStartThere = (x : LaneStart) × IsLaneStart value x
@@ -226,14 +204,14 @@ module _ (value : Json) (fault : LineFault) where
   pub start_members : ¬ HasOnly (codes "lane" ∷ codes "home" ∷ codes "serial" ∷ []) value → ¬ IsStartThere
   start_members n p = n p.1.no_other
 
-  pub start_lane : Denies fault ((x : ℕ) × HasNumber (codes "lane") (2 ^ 16) value x) → Denies fault IsStartThere
-  start_lane = denied ((x : ℕ) × HasNumber (codes "lane") (2 ^ 16) value x) IsStartThere (λ p. (p.0.lane, p.1.lane)) fault
+  pub start_lane : Passes fault ((x : ℕ) × HasNumber (codes "lane") (2 ^ 16) value x) IsStartThere (IsLaneStart value)
+  start_lane = passed_with ((x : ℕ) × HasNumber (codes "lane") (2 ^ 16) value x) IsStartThere (λ p. (p.0.lane, p.1.lane)) (IsLaneStart value) fault
 
-  pub start_home : Denies fault ((x : List ℕ) × HasText (codes "home") value x) → Denies fault IsStartThere
-  start_home = denied ((x : List ℕ) × HasText (codes "home") value x) IsStartThere (λ p. (p.0.home.now, p.1.home)) fault
+  pub start_home : Passes fault ((x : List ℕ) × HasText (codes "home") value x) IsStartThere (IsLaneStart value)
+  start_home = passed_with ((x : List ℕ) × HasText (codes "home") value x) IsStartThere (λ p. (p.0.home.now, p.1.home)) (IsLaneStart value) fault
 
-  pub start_serial : Denies fault ((x : ℕ) × HasNumber (codes "serial") (2 ^ 63) value x) → Denies fault IsStartThere
-  start_serial = denied ((x : ℕ) × HasNumber (codes "serial") (2 ^ 63) value x) IsStartThere (λ p. (p.0.serial, p.1.serial)) fault
+  pub start_serial : Passes fault ((x : ℕ) × HasNumber (codes "serial") (2 ^ 63) value x) IsStartThere (IsLaneStart value)
+  start_serial = passed_with ((x : ℕ) × HasNumber (codes "serial") (2 ^ 63) value x) IsStartThere (λ p. (p.0.serial, p.1.serial)) (IsLaneStart value) fault
 
   abbrev pub IsCountThere : Type 0
   IsCountThere = (x : LaneCount) × IsLaneCount value x
@@ -241,17 +219,17 @@ module _ (value : Json) (fault : LineFault) where
   pub count_members : ¬ HasOnly (codes "lane" ∷ codes "entries" ∷ codes "accepted" ∷ codes "left" ∷ []) value → ¬ IsCountThere
   count_members n p = n p.1.no_other
 
-  pub count_lane : Denies fault ((x : ℕ) × HasNumber (codes "lane") (2 ^ 16) value x) → Denies fault IsCountThere
-  count_lane = denied ((x : ℕ) × HasNumber (codes "lane") (2 ^ 16) value x) IsCountThere (λ p. (p.0.lane, p.1.lane)) fault
+  pub count_lane : Passes fault ((x : ℕ) × HasNumber (codes "lane") (2 ^ 16) value x) IsCountThere (IsLaneCount value)
+  count_lane = passed_with ((x : ℕ) × HasNumber (codes "lane") (2 ^ 16) value x) IsCountThere (λ p. (p.0.lane, p.1.lane)) (IsLaneCount value) fault
 
-  pub count_entries : Denies fault ((x : ℕ) × HasNumber (codes "entries") (2 ^ 64) value x) → Denies fault IsCountThere
-  count_entries = denied ((x : ℕ) × HasNumber (codes "entries") (2 ^ 64) value x) IsCountThere (λ p. (p.0.entries, p.1.entries)) fault
+  pub count_entries : Passes fault ((x : ℕ) × HasNumber (codes "entries") (2 ^ 64) value x) IsCountThere (IsLaneCount value)
+  count_entries = passed_with ((x : ℕ) × HasNumber (codes "entries") (2 ^ 64) value x) IsCountThere (λ p. (p.0.entries, p.1.entries)) (IsLaneCount value) fault
 
-  pub count_accepted : Denies fault ((x : Option ℕ) × MayHaveNumber (codes "accepted") (2 ^ 64) value x) → Denies fault IsCountThere
-  count_accepted = denied ((x : Option ℕ) × MayHaveNumber (codes "accepted") (2 ^ 64) value x) IsCountThere (λ p. (p.0.accepted, p.1.accepted)) fault
+  pub count_accepted : Passes fault ((x : Option ℕ) × MayHaveNumber (codes "accepted") (2 ^ 64) value x) IsCountThere (IsLaneCount value)
+  count_accepted = passed_with ((x : Option ℕ) × MayHaveNumber (codes "accepted") (2 ^ 64) value x) IsCountThere (λ p. (p.0.accepted, p.1.accepted)) (IsLaneCount value) fault
 
-  pub count_left : Denies fault ((x : Option ℕ) × MayHaveNumber (codes "left") (2 ^ 64) value x) → Denies fault IsCountThere
-  count_left = denied ((x : Option ℕ) × MayHaveNumber (codes "left") (2 ^ 64) value x) IsCountThere (λ p. (p.0.left, p.1.left)) fault
+  pub count_left : Passes fault ((x : Option ℕ) × MayHaveNumber (codes "left") (2 ^ 64) value x) IsCountThere (IsLaneCount value)
+  count_left = passed_with ((x : Option ℕ) × MayHaveNumber (codes "left") (2 ^ 64) value x) IsCountThere (λ p. (p.0.left, p.1.left)) (IsLaneCount value) fault
 
 -- What the tests of two numbers that a line may have tell.
 pub same_tests : (a b : Bool) → not (beq a b) ≡ false → a ≡ b
@@ -295,5 +273,5 @@ module _ (value : Json) where
       let same : h.found ≡ found = subst (λ o. MatchOption o ⊤ (λ z. h.found ≡ z)) (sym h.there ∙ sym e) refl in
       (file, subst (λ j. IsFileBefore j file) same h.is)
 
-  pub no_file_in : (fault : LineFault) (found : Json) → Some found ≡ get (codes "before") value → Denies fault ((x : FileBefore) × IsFileBefore found x) → Denies fault FileIfAnyThere
-  no_file_in fault found e d = denied ((x : FileBefore) × IsFileBefore found x) FileIfAnyThere (file_of found e) fault d
+  pub no_file_in : (fault : LineFault) (found : Json) → Some found ≡ get (codes "before") value → Passes fault ((x : FileBefore) × IsFileBefore found x) FileIfAnyThere (MayHaveFile value)
+  no_file_in fault found e = passed_with ((x : FileBefore) × IsFileBefore found x) FileIfAnyThere (file_of found e) (MayHaveFile value) fault

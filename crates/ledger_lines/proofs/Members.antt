@@ -1,5 +1,5 @@
 -- What an object of members has at its keys, and which keys it has.
-use Rattle.std.proofs.Common.{◌≡◌, ◌≢◌, ℕ, suc, ◌+◌, ◌≤◌, Bool, true, false, cond, ◌&&◌, not, List, [], ◌∷◌, map, Option, Some, None, refl, sym, ap, ◌∙◌, subst, arith}
+use Rattle.std.proofs.Common.{◌≡◌, ◌≢◌, ℕ, suc, ◌+◌, ◌≤◌, Bool, true, false, cond, ◌&&◌, not, List, [], ◌∷◌, ◌++◌, map, Option, Some, None, refl, sym, ap, ◌∙◌, subst, arith}
 use Rattle.std.specs.Prelude.{⊤}
 use Rattle.std.specs.List.{AllByRecursion, Contains}
 use Rattle.std.specs.Str.{bytes_eq}
@@ -31,6 +31,11 @@ are_distinct (name ∷ others) = differs_from name others && are_distinct others
 abbrev pub found : List ℕ → List (List ℕ × Option Json) → Option Json
 found name [] = None
 found name (slot ∷ slots) = cond (bytes_eq slot.0 name) slot.1 (found name slots)
+
+-- the same without a slot of another name
+pub found_without : (name other : List ℕ) (o : Option Json) → bytes_eq other name ≡ false → (ss us : List (List ℕ × Option Json)) → found name (ss ++ (other, o) ∷ us) ≡ found name (ss ++ us)
+found_without name other o differs [] us = ap (λ b. cond b o (found name us)) differs
+found_without name other o differs (s ∷ ss) us = ap (λ x. cond (bytes_eq s.0 name) s.1 x) (found_without name other o differs ss us)
 
 not_true : (b : Bool) → not b ≡ true → b ≡ false
 not_true true h = absurd cc
@@ -123,6 +128,10 @@ MayBeFine most (Some value) = IsFine most value
 abbrev pub AreFine : ℕ → List (List ℕ × Option Json) → Type 0
 AreFine most [] = ⊤
 AreFine most (slot ∷ slots) = MayBeFine most slot.1 × AreFine most slots
+
+pub fine_both : (most : ℕ) (ss us : List (List ℕ × Option Json)) → AreFine most ss → AreFine most us → AreFine most (ss ++ us)
+fine_both most [] us fine more = more
+fine_both most (s ∷ ss) us fine more = (fine.0, fine_both most ss us fine.1 more)
 
 fine_if : (most : ℕ) (key : List ℕ) (o : Option Json) (ms : Members) → MayBeFine most o → (members_depth ms ≤ most) × MembersHaveUniqueKeys ms → (members_depth (member_if key o ms) ≤ most) × MembersHaveUniqueKeys (member_if key o ms)
 fine_if most key None ms fine all = all

@@ -12,8 +12,8 @@ use Rattle.hex.specs.Hex.{decode_of}
 use Rattle.rad_realms.specs.Address.{address_in}
 use Rattle.ledger_lines.specs.Lines.{Denies, HasText, HasNumber, HasOctets, HasArray, HasRun, HasState, HasTime, IsTime, HasClient, MayHaveNumber, MayHaveSum, MayHaveTime, MayHaveWords, IsValue, state_text}
 use Rattle.ledger_lines.specs.declared.faults.LineFault.{LineFault}
-use Rattle.rad_ledger.specs.declared.left.LeftState.{LeftState}
-use Rattle.rad_ledger.specs.declared.left.LeftState.TheVariants.{Queued, Outstanding, Untaken}
+use Rattle.rad_desk.specs.declared.leaving.LeftState.{LeftState}
+use Rattle.rad_desk.specs.declared.leaving.LeftState.TheVariants.{Queued, Outstanding, Untaken}
 use Rattle.ledger_lines.proofs.Lines.{denied, differ}
 use Rattle.ledger_lines.proofs.Pairs.{DigitsRead}
 use Rattle.ledger_lines.proofs.Found.{same_some, string_by, TextThere, NumberThere, OctetsThere, narrower, too_large, none_below}

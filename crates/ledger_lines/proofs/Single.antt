@@ -7,19 +7,20 @@ use Rattle.json.specs.Json.{Json, Items, no_items, item, array}
 use Rattle.rad_realms.specs.Address.{address_in}
 use Rattle.rad_ledger.specs.declared.entry.Entry.{Entry}
 use Rattle.rad_ledger.specs.declared.left.Left.{Left}
-use Rattle.rad_ledger.specs.declared.left.LeftState.{LeftState}
-use Rattle.rad_ledger.specs.declared.left.LeftState.TheVariants.{Queued, Outstanding, Untaken}
+use Rattle.rad_desk.specs.declared.leaving.LeftState.{LeftState}
+use Rattle.rad_ledger.specs.declared.line_request.LineRequest.{LineRequest}
+use Rattle.rad_desk.specs.declared.leaving.LeftState.TheVariants.{Queued, Outstanding, Untaken}
 use Rattle.ledger_lines.specs.declared.begin.Begin.{Begin}
-use Rattle.ledger_lines.specs.declared.begin.End.{End}
+use Rattle.ledger_lines.specs.declared.end.End.{End}
 use Rattle.ledger_lines.specs.declared.begin.FileBefore.{FileBefore}
-use Rattle.ledger_lines.specs.declared.begin.LaneCount.{LaneCount}
-use Rattle.ledger_lines.specs.declared.begin.LaneStart.{LaneStart}
+use Rattle.ledger_lines.specs.declared.end.LaneCount.{LaneCount}
+use Rattle.ledger_lines.specs.declared.lane_start.LaneStart.{LaneStart}
 use Rattle.ledger_lines.specs.declared.faults.LineFault.{LineFault}
 use Rattle.ledger_lines.specs.declared.faults.LineFault.TheVariants.{NotALine, OutOfMemory}
 use Rattle.ledger_lines.specs.declared.reading.Line.{Line}
 use Rattle.ledger_lines.specs.declared.reading.Line.TheVariants.{Begin as begins, Entry as enters, Left as leaves, End as ends, Hidden as hides}
-use Rattle.ledger_lines.specs.Lines.{AreEach, HasArray, HasClient, HasLanes, HasOctets, HasRun, HasState, HasText, HasTime, IsBegin, IsEnd, IsEntry, IsFileBefore, IsLaneCount, IsLaneStart, IsLeft, IsLine, IsLineOf, MayHaveFile, MayHaveNumber, MayHaveSum, MayHaveTime, MayHaveWords, as_items, state_text}
-use Rattle.ledger_lines.specs.Same.{GivesBack, IsAnswer, IsSameBegin, IsSameEnd, IsSameEntry, IsSameFile, IsSameFileIfAny, IsSameLeft, IsSameLine, IsSameStart}
+use Rattle.ledger_lines.specs.Lines.{AreEach, HasArray, HasClient, HasLanes, HasOctets, HasRun, HasState, HasText, HasTime, IsAbout, IsBegin, IsEnd, IsEntry, IsFileBefore, IsLaneCount, IsLaneStart, IsLeft, IsLine, IsLineOf, MayHaveFile, MayHaveNumber, MayHaveSum, MayHaveTime, MayHaveWords, as_items, state_text}
+use Rattle.ledger_lines.specs.Same.{GivesBack, IsAnswer, IsSameBegin, IsSameEnd, IsSameEntry, IsSameFile, IsSameFileIfAny, IsSameLeft, IsSameLine, IsSameRequest, IsSameStart}
 use Rattle.ledger_lines.proofs.Found.{one_number, one_text, same_some}
 
 -- ---- what an object has at a key
@@ -79,44 +80,37 @@ module _ (value : Json) where
   one_state : (s t : LeftState) → HasState value s → HasState value t → s ≡ t
   one_state s t h i = state_by s t (one_text (codes "state") value (state_text s) (state_text t) h i)
 
--- ---- an entry, and a request that was left
+-- ---- the request that a line is about, an entry, and a request that was left
 
-one_entry : (value : Json) (one another : Entry) → IsEntry value one → IsEntry value another → IsSameEntry one another
-one_entry value one another h i = record {
+one_about : (value : Json) (one another : LineRequest) → IsAbout value one → IsAbout value another → IsSameRequest one another
+one_about value one another h i = record {
   run = one_run value one.run another.run h.run i.run;
   time = one_time (codes "time") value one.time.now another.time.now h.time i.time;
   home = one_text (codes "home") value one.home.now another.home.now h.home i.home;
   lane = one_number (codes "lane") value (2 ^ 16) (2 ^ 16) one.lane another.lane h.lane i.lane;
-  serial = one_number (codes "serial") value (2 ^ 63) (2 ^ 63) one.serial another.serial h.serial i.serial;
   number = one_number (codes "record") value (2 ^ 64) (2 ^ 64) one.number another.number h.record_is i.record_is;
   client = one_client value one.client another.client h.client i.client;
   port = one_number (codes "port") value (2 ^ 16) (2 ^ 16) one.port another.port h.port i.port;
   identifier = one_number (codes "identifier") value (2 ^ 8) (2 ^ 8) one.identifier another.identifier h.identifier i.identifier;
   authenticator = one_array (codes "authenticator") value 16 one.authenticator another.authenticator h.authenticator i.authenticator;
-  sent = one_octets (codes "sent") value one.sent.now another.sent.now h.sent i.sent;
-  reply = one_octets (codes "reply") value one.reply.now another.reply.now h.reply i.reply;
-  response = one_octets (codes "response") value one.response.now another.response.now h.response i.response;
   realm = words_if_any (codes "realm") (codes "realm_octets") value (option_copied one.realm) (option_copied another.realm) h.realm i.realm;
   session = words_if_any (codes "session") (codes "session_octets") value (option_copied one.session) (option_copied another.session) h.session i.session;
   status = number_if_any (codes "status") value (2 ^ 32) one.status another.status h.status i.status;
   user = words_if_any (codes "user") (codes "user_octets") value (option_copied one.user) (option_copied another.user) h.user i.user;
 }
 
+one_entry : (value : Json) (one another : Entry) → IsEntry value one → IsEntry value another → IsSameEntry one another
+one_entry value one another h i = record {
+  about = one_about value one.about another.about h.about i.about;
+  serial = one_number (codes "serial") value (2 ^ 63) (2 ^ 63) one.serial another.serial h.serial i.serial;
+  sent = one_octets (codes "sent") value one.sent.now another.sent.now h.sent i.sent;
+  reply = one_octets (codes "reply") value one.reply.now another.reply.now h.reply i.reply;
+  response = one_octets (codes "response") value one.response.now another.response.now h.response i.response;
+}
+
 one_left : (value : Json) (one another : Left) → IsLeft value one → IsLeft value another → IsSameLeft one another
 one_left value one another h i = record {
-  run = one_run value one.run another.run h.run i.run;
-  time = one_time (codes "time") value one.time.now another.time.now h.time i.time;
-  home = one_text (codes "home") value one.home.now another.home.now h.home i.home;
-  lane = one_number (codes "lane") value (2 ^ 16) (2 ^ 16) one.lane another.lane h.lane i.lane;
-  number = one_number (codes "record") value (2 ^ 64) (2 ^ 64) one.number another.number h.record_is i.record_is;
-  client = one_client value one.client another.client h.client i.client;
-  port = one_number (codes "port") value (2 ^ 16) (2 ^ 16) one.port another.port h.port i.port;
-  identifier = one_number (codes "identifier") value (2 ^ 8) (2 ^ 8) one.identifier another.identifier h.identifier i.identifier;
-  authenticator = one_array (codes "authenticator") value 16 one.authenticator another.authenticator h.authenticator i.authenticator;
-  realm = words_if_any (codes "realm") (codes "realm_octets") value (option_copied one.realm) (option_copied another.realm) h.realm i.realm;
-  session = words_if_any (codes "session") (codes "session_octets") value (option_copied one.session) (option_copied another.session) h.session i.session;
-  status = number_if_any (codes "status") value (2 ^ 32) one.status another.status h.status i.status;
-  user = words_if_any (codes "user") (codes "user_octets") value (option_copied one.user) (option_copied another.user) h.user i.user;
+  about = one_about value one.about another.about h.about i.about;
   state = one_state value one.state another.state h.state i.state;
   sendings = number_if_any (codes "sendings") value (2 ^ 32) one.sendings another.sendings h.sendings i.sendings;
   accepted = time_if_any (codes "accepted") value (option_copied one.accepted) (option_copied another.accepted) h.accepted i.accepted;

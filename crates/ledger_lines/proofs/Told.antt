@@ -1,7 +1,7 @@
 -- The value of each line is what a reader takes for that line.
-use Rattle.std.proofs.Common.{◌≡◌, ℕ, zero, suc, ◌/◌, ◌%◌, ◌*◌, ◌<◌, ◌≤◌, ◌^◌, List, [], ◌∷◌, codes, length, Bool, true, false, cond, option_map, Option, Some, None, decimal, inl, inr, refl, sym, ap, ◌∙◌, subst, arith}
+use Rattle.std.proofs.Common.{◌≡◌, ℕ, zero, suc, ◌/◌, ◌%◌, ◌*◌, ◌<◌, ◌≤◌, ◌^◌, List, [], ◌∷◌, ◌++◌, codes, length, Bool, true, false, cond, option_map, Option, Some, None, decimal, inl, inr, refl, sym, ap, ◌∙◌, subst, arith}
 use Rattle.std.specs.Prelude.{⊤, option_copied}
-use Rattle.std.specs.Str.{is_utf8}
+use Rattle.std.specs.Str.{bytes_eq, is_utf8}
 use Rattle.std.specs.List.{AllByRecursion}
 use Rattle.std.specs.Int.{w64, to_be_bytes}
 use Rattle.std.specs.Str.Parse.{IsNumeral, digits_value, without_leading_plus}
@@ -13,20 +13,21 @@ use Rattle.json.specs.Json.{Json, string}
 use Rattle.json.specs.Find.{get}
 use Rattle.hex.specs.Hex.{IsBytes, encode_lower, lower_digits}
 use Rattle.hex.proofs.HexLemmas.{decode_of-encode_lower, length-encode_with}
-use Rattle.ledger_lines.specs.Lines.{AreEach, HasNumber, MayHaveNumber, HasOctets, HasArray, HasRun, HasClient, IsBegin, IsEnd, IsEntry, IsFileBefore, IsLaneCount, IsLaneStart, IsLeft, IsLine, IsValue, MayHaveFile, MayHaveSum, MayHaveTime, MayHaveWords}
+use Rattle.ledger_lines.specs.Lines.{AreEach, HasNumber, MayHaveNumber, HasOctets, HasArray, HasRun, HasClient, IsAbout, IsBegin, IsEnd, IsEntry, IsFileBefore, IsLaneCount, IsLaneStart, IsLeft, IsLine, IsValue, MayHaveFile, MayHaveSum, MayHaveTime, MayHaveWords}
 use Rattle.rad_config.proofs.Addresses.{address_from_text}
 use Rattle.rad_realms.specs.Address.{IsAddress}
 use Rattle.rad_realms.specs.Printed.{address_text}
 use Rattle.rad_ledger.specs.declared.entry.Entry.{Entry}
 use Rattle.rad_ledger.specs.declared.left.Left.{Left}
+use Rattle.rad_ledger.specs.declared.line_request.LineRequest.{LineRequest}
 use Rattle.ledger_lines.specs.declared.begin.Begin.{Begin}
 use Rattle.ledger_lines.specs.declared.begin.FileBefore.{FileBefore}
-use Rattle.ledger_lines.specs.declared.begin.LaneStart.{LaneStart}
-use Rattle.ledger_lines.specs.Written.{AreBytesIfAny, IsBelowIfAny, IsReadableBegin, IsReadableCount, IsReadableEnd, IsReadableEntry, IsReadableFile, IsReadableFileIfAny, IsReadableLeft, IsReadableStart, IsSumIfAny, IsTimeIfAny, begin_slots, begin_value, count_slots, count_value, digits_if_any, end_slots, end_value, entry_slots, entry_value, file_slots, file_value, items_of, left_slots, left_value, number_value, octets_value, start_slots, start_value, text_if_any}
-use Rattle.ledger_lines.specs.declared.begin.End.{End}
-use Rattle.ledger_lines.specs.declared.begin.LaneCount.{LaneCount}
+use Rattle.ledger_lines.specs.declared.lane_start.LaneStart.{LaneStart}
+use Rattle.ledger_lines.specs.Written.{AreBytesIfAny, IsBelowIfAny, IsReadableBegin, IsReadableCount, IsReadableEnd, IsReadableEntry, IsReadableFile, IsReadableFileIfAny, IsReadableLeft, IsReadableRequest, IsReadableStart, IsSumIfAny, IsTimeIfAny, begin_slots, begin_value, count_slots, count_value, digits_if_any, end_slots, end_value, entry_slots, entry_value, file_slots, file_value, items_of, lane_slots, left_slots, left_value, number_value, octets_value, packet_slots, request_slots, start_slots, start_value, state_slots, text_if_any}
+use Rattle.ledger_lines.specs.declared.end.End.{End}
+use Rattle.ledger_lines.specs.declared.end.LaneCount.{LaneCount}
 use Rattle.ledger_lines.specs.declared.reading.Line.TheVariants.{Begin as begins, Entry as enters, Left as leaves, End as ends}
-use Rattle.ledger_lines.proofs.Members.{get_found, only_names}
+use Rattle.ledger_lines.proofs.Members.{found, found_without, get_found, only_names}
 
 -- ---- numbers
 
@@ -138,7 +139,7 @@ end_read end h =
       };
     }
 
--- ---- what may be there, and what names a request
+-- ---- what may be there, and a client
 
 time_if_there : (key : List ℕ) (value : Json) (time : Option (List ℕ)) → get key value ≡ option_map string time → IsTimeIfAny time → MayHaveTime key value time
 time_if_there key value None e is = e
@@ -155,7 +156,26 @@ words_there key other value (Some octets) e f small = words_by key other value o
 client_there : (value : Json) (client : List ℕ) → get (codes "client") value ≡ Some (string (address_text client)) → IsAddress client → HasClient value client
 client_there value client e is = record { text = address_text client; there = e; is = address_from_text client is }
 
--- ---- an entry, and a request that was left
+-- ---- the request that a line is about, an entry, and a request that was left
+
+module _ (value : Json) (kind : List ℕ) (about : LineRequest) (rest : List (List ℕ × Option Json))
+    (at : (key : List ℕ) → bytes_eq (codes "serial") key ≡ false → get key value ≡ found key (lane_slots kind about ++ (request_slots about ++ rest))) where
+  about_there : IsReadableRequest about → IsAbout value about
+  about_there h = record {
+    run = run_there value about.run (at (codes "run") refl) h.run;
+    time = record { there = at (codes "time") refl; is = h.time };
+    home = at (codes "home") refl;
+    lane = number_there (codes "lane") (2 ^ 16) value about.lane (at (codes "lane") refl) (omega (arith, h.lane)) h.lane;
+    record_is = number_there (codes "record") (2 ^ 64) value about.number (at (codes "record") refl) h.record_is h.record_is;
+    client = client_there value about.client (at (codes "client") refl) h.client;
+    port = number_there (codes "port") (2 ^ 16) value about.port (at (codes "port") refl) (omega (arith, h.port)) h.port;
+    identifier = number_there (codes "identifier") (2 ^ 8) value about.identifier (at (codes "identifier") refl) (omega (arith, h.identifier)) h.identifier;
+    authenticator = array_there (codes "authenticator") 16 value about.authenticator (at (codes "authenticator") refl) h.long h.octets;
+    realm = words_there (codes "realm") (codes "realm_octets") value (option_copied about.realm) (at (codes "realm") refl) (at (codes "realm_octets") refl) h.realm;
+    session = words_there (codes "session") (codes "session_octets") value (option_copied about.session) (at (codes "session") refl) (at (codes "session_octets") refl) h.session;
+    status = number_if_there (codes "status") (2 ^ 32) value about.status (at (codes "status") refl) (omega arith) h.status;
+    user = words_there (codes "user") (codes "user_octets") value (option_copied about.user) (at (codes "user") refl) (at (codes "user_octets") refl) h.user;
+  }
 
 pub entry_read : (e : Entry) → IsReadableEntry e → IsEntry (entry_value e) e
 entry_read e h =
@@ -164,23 +184,13 @@ entry_read e h =
     record {
       no_other = only_names (entry_slots e);
       type_is = at (codes "type");
-      run = run_there value e.run (at (codes "run")) h.run;
-      time = record { there = at (codes "time"); is = h.time };
-      home = at (codes "home");
-      lane = number_there (codes "lane") (2 ^ 16) value e.lane (at (codes "lane")) (omega (arith, h.lane)) h.lane;
+      about =
+          about_there value (codes "entry") e.about (packet_slots e)
+          (λ key other. at key ∙ found_without key (codes "serial") (Some (number_value e.serial)) other (lane_slots (codes "entry") e.about) (request_slots e.about ++ packet_slots e)) h.about;
       serial = number_there (codes "serial") (2 ^ 63) value e.serial (at (codes "serial")) (omega (arith, h.serial)) h.serial;
-      record_is = number_there (codes "record") (2 ^ 64) value e.number (at (codes "record")) h.record_is h.record_is;
-      client = client_there value e.client (at (codes "client")) h.request.client_is;
-      port = number_there (codes "port") (2 ^ 16) value e.port (at (codes "port")) (omega (arith, h.request.port_is)) h.request.port_is;
-      identifier = number_there (codes "identifier") (2 ^ 8) value e.identifier (at (codes "identifier")) (omega (arith, h.request.identifier_is)) h.request.identifier_is;
-      authenticator = array_there (codes "authenticator") 16 value e.authenticator (at (codes "authenticator")) h.request.long h.request.octets;
       sent = octets_there (codes "sent") value e.sent.now (at (codes "sent")) h.sent;
       reply = octets_there (codes "reply") value e.reply.now (at (codes "reply")) h.reply;
       response = octets_there (codes "response") value e.response.now (at (codes "response")) h.response;
-      realm = words_there (codes "realm") (codes "realm_octets") value (option_copied e.realm) (at (codes "realm")) (at (codes "realm_octets")) h.realm;
-      session = words_there (codes "session") (codes "session_octets") value (option_copied e.session) (at (codes "session")) (at (codes "session_octets")) h.session;
-      status = number_if_there (codes "status") (2 ^ 32) value e.status (at (codes "status")) (omega arith) h.status;
-      user = words_there (codes "user") (codes "user_octets") value (option_copied e.user) (at (codes "user")) (at (codes "user_octets")) h.user;
     }
 
 pub left_read : (left : Left) → IsReadableLeft left → IsLeft (left_value left) left
@@ -190,19 +200,7 @@ left_read left h =
     record {
       no_other = only_names (left_slots left);
       type_is = at (codes "type");
-      run = run_there value left.run (at (codes "run")) h.run;
-      time = record { there = at (codes "time"); is = h.time };
-      home = at (codes "home");
-      lane = number_there (codes "lane") (2 ^ 16) value left.lane (at (codes "lane")) (omega (arith, h.lane)) h.lane;
-      record_is = number_there (codes "record") (2 ^ 64) value left.number (at (codes "record")) h.record_is h.record_is;
-      client = client_there value left.client (at (codes "client")) h.names.client_is;
-      port = number_there (codes "port") (2 ^ 16) value left.port (at (codes "port")) (omega (arith, h.names.port_is)) h.names.port_is;
-      identifier = number_there (codes "identifier") (2 ^ 8) value left.identifier (at (codes "identifier")) (omega (arith, h.names.identifier_is)) h.names.identifier_is;
-      authenticator = array_there (codes "authenticator") 16 value left.authenticator (at (codes "authenticator")) h.names.long h.names.octets;
-      realm = words_there (codes "realm") (codes "realm_octets") value (option_copied left.realm) (at (codes "realm")) (at (codes "realm_octets")) h.realm;
-      session = words_there (codes "session") (codes "session_octets") value (option_copied left.session) (at (codes "session")) (at (codes "session_octets")) h.session;
-      status = number_if_there (codes "status") (2 ^ 32) value left.status (at (codes "status")) (omega arith) h.status;
-      user = words_there (codes "user") (codes "user_octets") value (option_copied left.user) (at (codes "user")) (at (codes "user_octets")) h.user;
+      about = about_there value (codes "left") left.about (state_slots left) (λ key other. at key) h.about;
       state = at (codes "state");
       sendings = number_if_there (codes "sendings") (2 ^ 32) value left.sendings (at (codes "sendings")) (omega arith) h.sendings;
       accepted = time_if_there (codes "accepted") value (option_copied left.accepted) (at (codes "accepted")) h.accepted;

@@ -5,7 +5,7 @@ use Rattle.ledger_lines.specs.Lines.{Denies, HasText, IsLine, IsLineOf, IsValue}
 use Rattle.ledger_lines.specs.declared.faults.LineFault.{LineFault}
 use Rattle.ledger_lines.specs.declared.reading.Line.{Line}
 use Rattle.ledger_lines.specs.declared.reading.Line.TheVariants.{Begin as begins, Entry as enters, Left as leaves, End as ends, Hidden as hides}
-use Rattle.ledger_lines.proofs.Lines.{denied, IsEntryThere, IsLeftThere, IsBeginThere, IsEndThere, IsHiddenThere}
+use Rattle.ledger_lines.proofs.Lines.{denied, Passes, passed_with, IsEntryThere, IsLeftThere, IsBeginThere, IsEndThere, IsHiddenThere}
 use Rattle.ledger_lines.proofs.Found.{same_some, one_text, TextThere}
 use Rattle.ledger_lines.proofs.Parts.{ValueThere}
 
@@ -20,8 +20,8 @@ module _ (value : Json) (fault : LineFault) where
   type_of (ends e, p) = (codes "end", p.type_is)
   type_of (hides h, p) = (codes "hidden", p.type_is)
 
-  pub no_type : Denies fault (TextThere (codes "type") value) → Denies fault LineThere
-  no_type d = denied (TextThere (codes "type") value) LineThere type_of fault d
+  pub no_type : Passes fault (TextThere (codes "type") value) LineThere (IsLineOf value)
+  no_type = passed_with (TextThere (codes "type") value) LineThere type_of (IsLineOf value) fault
 
   module _ (text : List ℕ) (there : HasText (codes "type") value text) where
     one_type : (other : List ℕ) → HasText (codes "type") value other → text ≡ other
@@ -34,8 +34,8 @@ module _ (value : Json) (fault : LineFault) where
     entry_in e (ends x, p) = absurd (omega (arith, ap length (sym e ∙ one_type (codes "end") p.type_is)))
     entry_in e (hides x, p) = absurd (omega (arith, ap length (sym e ∙ one_type (codes "hidden") p.type_is)))
 
-    pub entry_denied : text ≡ codes "entry" → Denies fault (IsEntryThere value fault) → Denies fault LineThere
-    entry_denied e d = denied (IsEntryThere value fault) LineThere (entry_in e) fault d
+    pub entry_denied : text ≡ codes "entry" → Passes fault (IsEntryThere value fault) LineThere (IsLineOf value)
+    entry_denied e = passed_with (IsEntryThere value fault) LineThere (entry_in e) (IsLineOf value) fault
 
     left_in : text ≡ codes "left" → LineThere → IsLeftThere value fault
     left_in e (begins b, p) = absurd (omega (arith, ap length (sym e ∙ one_type (codes "begin") p.type_is)))
@@ -44,8 +44,8 @@ module _ (value : Json) (fault : LineFault) where
     left_in e (ends x, p) = absurd (omega (arith, ap length (sym e ∙ one_type (codes "end") p.type_is)))
     left_in e (hides x, p) = absurd (omega (arith, ap length (sym e ∙ one_type (codes "hidden") p.type_is)))
 
-    pub left_denied : text ≡ codes "left" → Denies fault (IsLeftThere value fault) → Denies fault LineThere
-    left_denied e d = denied (IsLeftThere value fault) LineThere (left_in e) fault d
+    pub left_denied : text ≡ codes "left" → Passes fault (IsLeftThere value fault) LineThere (IsLineOf value)
+    left_denied e = passed_with (IsLeftThere value fault) LineThere (left_in e) (IsLineOf value) fault
 
     begin_in : text ≡ codes "begin" → LineThere → IsBeginThere value fault
     begin_in e (begins x, p) = (x, p)
@@ -54,8 +54,8 @@ module _ (value : Json) (fault : LineFault) where
     begin_in e (ends x, p) = absurd (omega (arith, ap length (sym e ∙ one_type (codes "end") p.type_is)))
     begin_in e (hides x, p) = absurd (omega (arith, ap length (sym e ∙ one_type (codes "hidden") p.type_is)))
 
-    pub begin_denied : text ≡ codes "begin" → Denies fault (IsBeginThere value fault) → Denies fault LineThere
-    begin_denied e d = denied (IsBeginThere value fault) LineThere (begin_in e) fault d
+    pub begin_denied : text ≡ codes "begin" → Passes fault (IsBeginThere value fault) LineThere (IsLineOf value)
+    begin_denied e = passed_with (IsBeginThere value fault) LineThere (begin_in e) (IsLineOf value) fault
 
     end_in : text ≡ codes "end" → LineThere → IsEndThere value fault
     end_in e (begins x, p) = absurd (omega (arith, ap length (sym e ∙ one_type (codes "begin") p.type_is)))
@@ -64,8 +64,8 @@ module _ (value : Json) (fault : LineFault) where
     end_in e (ends x, p) = (x, p)
     end_in e (hides x, p) = absurd (omega (arith, ap length (sym e ∙ one_type (codes "hidden") p.type_is)))
 
-    pub end_denied : text ≡ codes "end" → Denies fault (IsEndThere value fault) → Denies fault LineThere
-    end_denied e d = denied (IsEndThere value fault) LineThere (end_in e) fault d
+    pub end_denied : text ≡ codes "end" → Passes fault (IsEndThere value fault) LineThere (IsLineOf value)
+    end_denied e = passed_with (IsEndThere value fault) LineThere (end_in e) (IsLineOf value) fault
 
     hidden_in : text ≡ codes "hidden" → LineThere → IsHiddenThere value fault
     hidden_in e (begins x, p) = absurd (omega (arith, ap length (sym e ∙ one_type (codes "begin") p.type_is)))
@@ -74,8 +74,8 @@ module _ (value : Json) (fault : LineFault) where
     hidden_in e (ends x, p) = absurd (omega (arith, ap length (sym e ∙ one_type (codes "end") p.type_is)))
     hidden_in e (hides x, p) = (x, p)
 
-    pub hidden_denied : text ≡ codes "hidden" → Denies fault (IsHiddenThere value fault) → Denies fault LineThere
-    hidden_denied e d = denied (IsHiddenThere value fault) LineThere (hidden_in e) fault d
+    pub hidden_denied : text ≡ codes "hidden" → Passes fault (IsHiddenThere value fault) LineThere (IsLineOf value)
+    hidden_denied e = passed_with (IsHiddenThere value fault) LineThere (hidden_in e) (IsLineOf value) fault
 
     pub other_denied : text ≢ codes "entry" → text ≢ codes "left" → text ≢ codes "begin" → text ≢ codes "end" → text ≢ codes "hidden" → ¬ LineThere
     other_denied n l b e h (begins x, p) = b (one_type (codes "begin") p.type_is)

@@ -12,15 +12,16 @@ use Rattle.hex.specs.Hex.{decode_of}
 use Rattle.rad_realms.specs.Address.{address_in}
 use Rattle.rad_ledger.specs.declared.entry.Entry.{Entry}
 use Rattle.rad_ledger.specs.declared.left.Left.{Left}
-use Rattle.rad_ledger.specs.declared.left.LeftState.{LeftState}
-use Rattle.rad_ledger.specs.declared.left.LeftState.TheVariants.{Queued, Outstanding, Untaken}
+use Rattle.rad_desk.specs.declared.leaving.LeftState.{LeftState}
+use Rattle.rad_desk.specs.declared.leaving.LeftState.TheVariants.{Queued, Outstanding, Untaken}
+use Rattle.rad_ledger.specs.declared.line_request.LineRequest.{LineRequest}
 use Rattle.ledger_lines.specs.Moments.{IsMoment}
 use Rattle.ledger_lines.specs.declared.begin.Begin.{Begin}
-use Rattle.ledger_lines.specs.declared.begin.End.{End}
+use Rattle.ledger_lines.specs.declared.end.End.{End}
 use Rattle.ledger_lines.specs.declared.begin.FileBefore.{FileBefore}
-use Rattle.ledger_lines.specs.declared.begin.Hidden.{Hidden}
-use Rattle.ledger_lines.specs.declared.begin.LaneStart.{LaneStart}
-use Rattle.ledger_lines.specs.declared.begin.LaneCount.{LaneCount}
+use Rattle.ledger_lines.specs.declared.hidden.Hidden.{Hidden}
+use Rattle.ledger_lines.specs.declared.lane_start.LaneStart.{LaneStart}
+use Rattle.ledger_lines.specs.declared.end.LaneCount.{LaneCount}
 use Rattle.ledger_lines.specs.declared.faults.LineFault.{LineFault}
 use Rattle.ledger_lines.specs.declared.faults.LineFault.TheVariants.{NotALine, OutOfMemory}
 use Rattle.ledger_lines.specs.declared.reading.Line.{Line}
@@ -116,6 +117,22 @@ pub record HasClient (value : Json) (client : List ℕ) : Type 0 where
 abbrev pub HasAuthenticator : Json → List ℕ → Type 0
 HasAuthenticator value octets = HasArray (codes "authenticator") 16 value octets
 
+-- The request that a line is about, with its run and the moment of the line.
+pub record IsAbout (value : Json) (about : LineRequest) : Type 0 where
+  pub run : HasRun value about.run
+  pub time : HasTime (codes "time") value about.time.now
+  pub home : HasText (codes "home") value about.home.now
+  pub lane : HasNumber (codes "lane") (2 ^ 16) value about.lane
+  pub record_is : HasNumber (codes "record") (2 ^ 64) value about.number
+  pub client : HasClient value about.client
+  pub port : HasNumber (codes "port") (2 ^ 16) value about.port
+  pub identifier : HasNumber (codes "identifier") (2 ^ 8) value about.identifier
+  pub authenticator : HasAuthenticator value about.authenticator
+  pub realm : MayHaveWords (codes "realm") (codes "realm_octets") value (option_copied about.realm)
+  pub session : MayHaveWords (codes "session") (codes "session_octets") value (option_copied about.session)
+  pub status : MayHaveNumber (codes "status") (2 ^ 32) value about.status
+  pub user : MayHaveWords (codes "user") (codes "user_octets") value (option_copied about.user)
+
 -- The keys of an entry, with those that it may lack.
 abbrev pub keys_of_entry : List (List ℕ)
 keys_of_entry =
@@ -126,23 +143,11 @@ keys_of_entry =
 pub record IsEntry (value : Json) (e : Entry) : Type 0 where
   pub no_other : HasOnly keys_of_entry value
   pub type_is : HasText (codes "type") value (codes "entry")
-  pub run : HasRun value e.run
-  pub time : HasTime (codes "time") value e.time.now
-  pub home : HasText (codes "home") value e.home.now
-  pub lane : HasNumber (codes "lane") (2 ^ 16) value e.lane
+  pub about : IsAbout value e.about
   pub serial : HasNumber (codes "serial") (2 ^ 63) value e.serial
-  pub record_is : HasNumber (codes "record") (2 ^ 64) value e.number
-  pub client : HasClient value e.client
-  pub port : HasNumber (codes "port") (2 ^ 16) value e.port
-  pub identifier : HasNumber (codes "identifier") (2 ^ 8) value e.identifier
-  pub authenticator : HasAuthenticator value e.authenticator
   pub sent : HasOctets (codes "sent") value e.sent.now
   pub reply : HasOctets (codes "reply") value e.reply.now
   pub response : HasOctets (codes "response") value e.response.now
-  pub realm : MayHaveWords (codes "realm") (codes "realm_octets") value (option_copied e.realm)
-  pub session : MayHaveWords (codes "session") (codes "session_octets") value (option_copied e.session)
-  pub status : MayHaveNumber (codes "status") (2 ^ 32) value e.status
-  pub user : MayHaveWords (codes "user") (codes "user_octets") value (option_copied e.user)
 
 -- How a request was left, as a line has it.
 abbrev pub state_text : LeftState → List ℕ
@@ -163,19 +168,7 @@ keys_of_left =
 pub record IsLeft (value : Json) (left : Left) : Type 0 where
   pub no_other : HasOnly keys_of_left value
   pub type_is : HasText (codes "type") value (codes "left")
-  pub run : HasRun value left.run
-  pub time : HasTime (codes "time") value left.time.now
-  pub home : HasText (codes "home") value left.home.now
-  pub lane : HasNumber (codes "lane") (2 ^ 16) value left.lane
-  pub record_is : HasNumber (codes "record") (2 ^ 64) value left.number
-  pub client : HasClient value left.client
-  pub port : HasNumber (codes "port") (2 ^ 16) value left.port
-  pub identifier : HasNumber (codes "identifier") (2 ^ 8) value left.identifier
-  pub authenticator : HasAuthenticator value left.authenticator
-  pub realm : MayHaveWords (codes "realm") (codes "realm_octets") value (option_copied left.realm)
-  pub session : MayHaveWords (codes "session") (codes "session_octets") value (option_copied left.session)
-  pub status : MayHaveNumber (codes "status") (2 ^ 32) value left.status
-  pub user : MayHaveWords (codes "user") (codes "user_octets") value (option_copied left.user)
+  pub about : IsAbout value left.about
   pub state : HasState value left.state
   pub sendings : MayHaveNumber (codes "sendings") (2 ^ 32) value left.sendings
   pub accepted : MayHaveTime (codes "accepted") value (option_copied left.accepted)

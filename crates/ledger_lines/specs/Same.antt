@@ -4,49 +4,41 @@ use Rattle.std.specs.Prelude.{◌≡◌, ℕ, List, Option, Some, None, option_c
 use Rattle.std.specs.List.{AllZip}
 use Rattle.rad_ledger.specs.declared.entry.Entry.{Entry}
 use Rattle.rad_ledger.specs.declared.left.Left.{Left}
+use Rattle.rad_ledger.specs.declared.line_request.LineRequest.{LineRequest}
 use Rattle.ledger_lines.specs.Lines.{Denies, IsLine}
 use Rattle.ledger_lines.specs.declared.begin.Begin.{Begin}
-use Rattle.ledger_lines.specs.declared.begin.End.{End}
+use Rattle.ledger_lines.specs.declared.end.End.{End}
 use Rattle.ledger_lines.specs.declared.begin.FileBefore.{FileBefore}
-use Rattle.ledger_lines.specs.declared.begin.LaneStart.{LaneStart}
+use Rattle.ledger_lines.specs.declared.lane_start.LaneStart.{LaneStart}
 use Rattle.ledger_lines.specs.declared.faults.LineFault.{LineFault}
 use Rattle.ledger_lines.specs.declared.faults.LineFault.TheVariants.{OutOfMemory}
 use Rattle.ledger_lines.specs.declared.reading.Line.{Line}
 use Rattle.ledger_lines.specs.declared.reading.Line.TheVariants.{Begin as begins, Entry as enters, Left as leaves, End as ends, Hidden as hides}
 
-pub record IsSameEntry (one another : Entry) : Type 0 where
+pub record IsSameRequest (one another : LineRequest) : Type 0 where
   pub run : one.run ≡ another.run
   pub time : one.time.now ≡ another.time.now
   pub home : one.home.now ≡ another.home.now
   pub lane : one.lane ≡ another.lane
-  pub serial : one.serial ≡ another.serial
   pub number : one.number ≡ another.number
   pub client : one.client ≡ another.client
   pub port : one.port ≡ another.port
   pub identifier : one.identifier ≡ another.identifier
   pub authenticator : one.authenticator ≡ another.authenticator
-  pub sent : one.sent.now ≡ another.sent.now
-  pub reply : one.reply.now ≡ another.reply.now
-  pub response : one.response.now ≡ another.response.now
   pub realm : option_copied one.realm ≡ option_copied another.realm
   pub session : option_copied one.session ≡ option_copied another.session
   pub status : one.status ≡ another.status
   pub user : option_copied one.user ≡ option_copied another.user
 
+pub record IsSameEntry (one another : Entry) : Type 0 where
+  pub about : IsSameRequest one.about another.about
+  pub serial : one.serial ≡ another.serial
+  pub sent : one.sent.now ≡ another.sent.now
+  pub reply : one.reply.now ≡ another.reply.now
+  pub response : one.response.now ≡ another.response.now
+
 pub record IsSameLeft (one another : Left) : Type 0 where
-  pub run : one.run ≡ another.run
-  pub time : one.time.now ≡ another.time.now
-  pub home : one.home.now ≡ another.home.now
-  pub lane : one.lane ≡ another.lane
-  pub number : one.number ≡ another.number
-  pub client : one.client ≡ another.client
-  pub port : one.port ≡ another.port
-  pub identifier : one.identifier ≡ another.identifier
-  pub authenticator : one.authenticator ≡ another.authenticator
-  pub realm : option_copied one.realm ≡ option_copied another.realm
-  pub session : option_copied one.session ≡ option_copied another.session
-  pub status : one.status ≡ another.status
-  pub user : option_copied one.user ≡ option_copied another.user
+  pub about : IsSameRequest one.about another.about
   pub state : one.state ≡ another.state
   pub sendings : one.sendings ≡ another.sendings
   pub accepted : option_copied one.accepted ≡ option_copied another.accepted

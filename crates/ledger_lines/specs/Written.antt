@@ -9,12 +9,13 @@ use Rattle.rad_realms.specs.Address.{IsAddress}
 use Rattle.rad_realms.specs.Printed.{address_text}
 use Rattle.rad_ledger.specs.declared.entry.Entry.{Entry}
 use Rattle.rad_ledger.specs.declared.left.Left.{Left}
+use Rattle.rad_ledger.specs.declared.line_request.LineRequest.{LineRequest}
 use Rattle.ledger_lines.specs.Lines.{IsTime, IsValue, state_text}
 use Rattle.ledger_lines.specs.declared.begin.Begin.{Begin}
-use Rattle.ledger_lines.specs.declared.begin.End.{End}
+use Rattle.ledger_lines.specs.declared.end.End.{End}
 use Rattle.ledger_lines.specs.declared.begin.FileBefore.{FileBefore}
-use Rattle.ledger_lines.specs.declared.begin.LaneCount.{LaneCount}
-use Rattle.ledger_lines.specs.declared.begin.LaneStart.{LaneStart}
+use Rattle.ledger_lines.specs.declared.end.LaneCount.{LaneCount}
+use Rattle.ledger_lines.specs.declared.lane_start.LaneStart.{LaneStart}
 
 -- Octets that are those before, and a line behind them, which is text, with its line end.
 pub record HasLineBehind (before all : List ℕ) : Type 0 where
@@ -69,36 +70,38 @@ digits_if_any (Some octets) = cond (is_utf8 octets) None (Some (octets_value oct
 abbrev pub words_slots : List ℕ → List ℕ → Option (List ℕ) → List (List ℕ × Option Json)
 words_slots key other octets = (key, text_if_any octets) ∷ (other, digits_if_any octets) ∷ []
 
--- What names a request, besides its number.
-abbrev pub request_slots : List ℕ → ℕ → ℕ → List ℕ → List (List ℕ × Option Json)
-request_slots client port identifier authenticator =
-    (codes "client", Some (string (address_text client))) ∷ (codes "port", Some (number_value port)) ∷ (codes "identifier", Some (number_value identifier))
-    ∷ (codes "authenticator", Some (octets_value authenticator)) ∷ []
+-- The request that a line is about: what stands before its number, with the line's type, and what stands from there on.
+abbrev pub lane_slots : List ℕ → LineRequest → List (List ℕ × Option Json)
+lane_slots kind about =
+    first_slots kind about.run about.time.now ++ (codes "home", Some (string about.home.now)) ∷ (codes "lane", Some (number_value about.lane)) ∷ []
 
--- An entry.
+abbrev pub request_slots : LineRequest → List (List ℕ × Option Json)
+request_slots about =
+    (codes "record", Some (number_value about.number)) ∷ (codes "client", Some (string (address_text about.client)))
+    ∷ (codes "port", Some (number_value about.port)) ∷ (codes "identifier", Some (number_value about.identifier))
+    ∷ (codes "authenticator", Some (octets_value about.authenticator)) ∷ (words_slots (codes "realm") (codes "realm_octets") (option_copied about.realm)
+    ++ (words_slots (codes "session") (codes "session_octets") (option_copied about.session) ++ (codes "status", option_map number_value about.status)
+    ∷ words_slots (codes "user") (codes "user_octets") (option_copied about.user)))
+
+-- An entry, with its packets last.
+abbrev pub packet_slots : Entry → List (List ℕ × Option Json)
+packet_slots e =
+    (codes "sent", Some (octets_value e.sent.now)) ∷ (codes "reply", Some (octets_value e.reply.now)) ∷ (codes "response", Some (octets_value e.response.now)) ∷ []
+
 abbrev pub entry_slots : Entry → List (List ℕ × Option Json)
-entry_slots e =
-    first_slots (codes "entry") e.run e.time.now
-    ++ (codes "home", Some (string e.home.now)) ∷ (codes "lane", Some (number_value e.lane)) ∷ (codes "serial", Some (number_value e.serial))
-    ∷ (codes "record", Some (number_value e.number)) ∷ (request_slots e.client e.port e.identifier e.authenticator
-    ++ (words_slots (codes "realm") (codes "realm_octets") (option_copied e.realm) ++ (words_slots (codes "session") (codes "session_octets") (option_copied e.session)
-    ++ (codes "status", option_map number_value e.status) ∷ (words_slots (codes "user") (codes "user_octets") (option_copied e.user)
-    ++ (codes "sent", Some (octets_value e.sent.now)) ∷ (codes "reply", Some (octets_value e.reply.now))
-    ∷ (codes "response", Some (octets_value e.response.now)) ∷ []))))
+entry_slots e = lane_slots (codes "entry") e.about ++ (codes "serial", Some (number_value e.serial)) ∷ (request_slots e.about ++ packet_slots e)
 
 abbrev pub entry_value : Entry → Json
 entry_value e = object_of (entry_slots e)
 
--- A request that was left.
+-- A request that was left, with how it was left last.
+abbrev pub state_slots : Left → List (List ℕ × Option Json)
+state_slots left =
+    (codes "state", Some (string (state_text left.state))) ∷ (codes "sendings", option_map number_value left.sendings)
+    ∷ (codes "accepted", option_map string (option_copied left.accepted)) ∷ (codes "request", Some (octets_value left.request.now)) ∷ []
+
 abbrev pub left_slots : Left → List (List ℕ × Option Json)
-left_slots left =
-    first_slots (codes "left") left.run left.time.now
-    ++ (codes "home", Some (string left.home.now)) ∷ (codes "lane", Some (number_value left.lane)) ∷ (codes "record", Some (number_value left.number))
-    ∷ (request_slots left.client left.port left.identifier left.authenticator ++ (words_slots (codes "realm") (codes "realm_octets") (option_copied left.realm)
-    ++ (words_slots (codes "session") (codes "session_octets") (option_copied left.session) ++ (codes "status", option_map number_value left.status)
-    ∷ (words_slots (codes "user") (codes "user_octets") (option_copied left.user) ++ (codes "state", Some (string (state_text left.state)))
-    ∷ (codes "sendings", option_map number_value left.sendings) ∷ (codes "accepted", option_map string (option_copied left.accepted))
-    ∷ (codes "request", Some (octets_value left.request.now)) ∷ []))))
+left_slots left = lane_slots (codes "left") left.about ++ (request_slots left.about ++ state_slots left)
 
 abbrev pub left_value : Left → Json
 left_value left = object_of (left_slots left)
@@ -193,47 +196,39 @@ pub record IsReadableBegin (begin : Begin) : Type 0 where
   pub before : IsReadableFileIfAny begin.before
   pub lanes : All IsReadableStart begin.lanes.items
 
--- The same of octets that may be there, of what names a request, of an entry, and of a request that was left.
+-- The same of octets that may be there, of the request that a line is about, of an entry, and of a request that was left.
 abbrev pub AreBytesIfAny : Option (List ℕ) → Type 0
 AreBytesIfAny None = ⊤
 AreBytesIfAny (Some octets) = IsBytes octets
 
-pub record IsReadableRequest (client : List ℕ) (port identifier : ℕ) (authenticator : List ℕ) : Type 0 where
-  pub client_is : IsAddress client
-  pub port_is : port < 2 ^ 16
-  pub identifier_is : identifier < 2 ^ 8
-  pub long : length authenticator ≡ 16
-  pub octets : IsBytes authenticator
+pub record IsReadableRequest (about : LineRequest) : Type 0 where
+  pub run : about.run < 2 ^ 64
+  pub time : IsTime about.time.now
+  pub lane : about.lane < 2 ^ 16
+  pub record_is : about.number < 2 ^ 64
+  pub client : IsAddress about.client
+  pub port : about.port < 2 ^ 16
+  pub identifier : about.identifier < 2 ^ 8
+  pub long : length about.authenticator ≡ 16
+  pub octets : IsBytes about.authenticator
+  pub realm : AreBytesIfAny (option_copied about.realm)
+  pub session : AreBytesIfAny (option_copied about.session)
+  pub status : IsBelowIfAny (2 ^ 32) about.status
+  pub user : AreBytesIfAny (option_copied about.user)
 
 pub record IsReadableEntry (e : Entry) : Type 0 where
-  pub run : e.run < 2 ^ 64
-  pub time : IsTime e.time.now
-  pub lane : e.lane < 2 ^ 16
+  pub about : IsReadableRequest e.about
   pub serial : e.serial < 2 ^ 63
-  pub record_is : e.number < 2 ^ 64
-  pub request : IsReadableRequest e.client e.port e.identifier e.authenticator
   pub sent : IsBytes e.sent.now
   pub reply : IsBytes e.reply.now
   pub response : IsBytes e.response.now
-  pub realm : AreBytesIfAny (option_copied e.realm)
-  pub session : AreBytesIfAny (option_copied e.session)
-  pub status : IsBelowIfAny (2 ^ 32) e.status
-  pub user : AreBytesIfAny (option_copied e.user)
 
 abbrev pub IsTimeIfAny : Option (List ℕ) → Type 0
 IsTimeIfAny None = ⊤
 IsTimeIfAny (Some time) = IsTime time
 
 pub record IsReadableLeft (left : Left) : Type 0 where
-  pub run : left.run < 2 ^ 64
-  pub time : IsTime left.time.now
-  pub lane : left.lane < 2 ^ 16
-  pub record_is : left.number < 2 ^ 64
-  pub names : IsReadableRequest left.client left.port left.identifier left.authenticator
-  pub realm : AreBytesIfAny (option_copied left.realm)
-  pub session : AreBytesIfAny (option_copied left.session)
-  pub status : IsBelowIfAny (2 ^ 32) left.status
-  pub user : AreBytesIfAny (option_copied left.user)
+  pub about : IsReadableRequest left.about
   pub sendings : IsBelowIfAny (2 ^ 32) left.sendings
   pub accepted : IsTimeIfAny (option_copied left.accepted)
   pub request : IsBytes left.request.now

@@ -1,31 +1,25 @@
-//! The lines that name a run, and that end one.
+//! The lines that name a run and begin a file, read and written.
 
-ghost use Rattle.std.specs.Prelude.{◌<◌, ◌^◌};
+ghost use Rattle.std.specs.Prelude.{[], ◌∷◌, List, MatchResult, OnOk, Option, codes, IfOk, option_map};
+ghost use Rattle.json.specs.Value.{items_view, value_view};
+ghost use Rattle.ledger_lines.specs.declared.begin.Begin.{Begin as TheBegin};
+ghost use Rattle.ledger_lines.specs.declared.lane_start.LaneStart.{LaneStart as TheStart};
+ghost use Rattle.ledger_lines.specs.declared.begin.FileBefore.{FileBefore as TheFile};
+ghost use Rattle.ledger_lines.specs.Lines.{AreEach, Denies, HasLanes, HasText, IsBegin, IsFileBefore, IsLaneStart, MayHaveFile};
+ghost use Rattle.json.specs.Json.{array};
+ghost use Rattle.json.specs.Tree.{json_tokens};
+ghost use Rattle.ledger_lines.specs.internal.Adding.{Adds, AddsSlots};
+ghost use Rattle.ledger_lines.specs.Written.{HasLineBehind, HasValueBehind, begin_value, file_value, items_of, start_value};
 
-/// A lane, as the line that begins a file names it.
-#[derive(Clone, Copy, Debug, PartialEq, Eq)]
-pub struct LaneStart<'a> {
-    /// Its number.
-    pub lane: u16,
-    /// The home server's name in the configuration.
-    pub home: &'a str,
-    /// The serial of the lane's next response, below 2^63.
-    pub serial: u64,
-    ghost bounded: { serial < 2 ^ 63 },
-}
-
-/// A lane, as the end line counts it.
-#[derive(Clone, Copy, Debug, PartialEq, Eq)]
-pub struct LaneCount {
-    /// Its number.
-    pub lane: u16,
-    /// How many responses of it the front took in the run.
-    pub entries: u64,
-    /// How many requests it accepted in the run. It is there exactly where `left` is.
-    pub accepted: Option<u64>,
-    /// How many of these were left when the run ended.
-    pub left: Option<u64>,
-}
+use crate::faults::LineFault;
+use crate::lane_start::LaneStart;
+use crate::values::{
+    has_only, lanes_at, number_at, push, run_at, serial_at, short_at, sum_at, sum_if_any_at,
+    text_at, time_at,
+};
+use crate::writing::{close_line, digits, digits_if_any, first_members, number, text};
+use json::{Value, Writer};
+use std::alloc::{AllocError, Global};
 
 /// A file of another run, as the first file of a run names it.
 #[derive(Clone, Copy)]
@@ -36,12 +30,6 @@ pub struct FileBefore<'a> {
     pub octets: u64,
     /// Their SHA-256.
     pub sha256: [u8; 32],
-}
-
-/// A line that is left out: the SHA-256 of that, with its line end, stands in its place.
-#[derive(Clone, Copy)]
-pub struct Hidden {
-    pub sum: [u8; 32],
 }
 
 /// The first line of a file: it names the run.
@@ -63,15 +51,158 @@ pub struct Begin<'a> {
     pub lanes: Vec<LaneStart<'a>>,
 }
 
-/// The last line of a run that ended by itself.
-#[derive(Drop)]
-pub struct End<'a> {
-    /// What names the run.
-    pub run: u64,
-    /// When it ended: RFC 3339, in UTC, with milliseconds.
-    pub time: &'a str,
-    /// The chain of the run's lines before it, if the run has one.
-    pub sum: Option<[u8; 32]>,
-    /// What was counted of its lanes.
-    pub lanes: Vec<LaneCount>,
+/// The keys of the first line of a file, in the order in which they are written.
+const BEGIN_KEYS: [&str; 8] = [
+    "type", "run", "time", "version", "file", "sum", "before", "lanes",
+];
+
+pub(crate) fn begin_of<'a>(alloc: Global, value: &Value<'a>) -> Result<Begin<'a>, LineFault>
+    requires { HasText (codes "type") (value_view value.now) (codes "begin") }
+    ensures { MatchResult result (λ begin. IsBegin (value_view value.now) begin) (λ fault. Denies fault ((begin : TheBegin) × IsBegin (value_view value.now) begin)) }
+{
+    if !has_only(value, &BEGIN_KEYS) {
+        return Err(LineFault::NotALine);
+    }
+    let run = run_at(value)?;
+    let time = time_at(value, "time")?;
+    let version = text_at(value, "version")?;
+    let file = number_at(value, "file")?;
+    let sum = sum_if_any_at(value, "sum")?;
+    let before = before_at(value)?;
+    let lanes = starts_at(alloc, value)?;
+    Ok(Begin {
+        run,
+        time,
+        version,
+        file,
+        sum,
+        before,
+        lanes,
+    })
+}
+
+fn before_at<'a>(value: &Value<'a>) -> Result<Option<FileBefore<'a>>, LineFault>
+    ensures { MatchResult result (λ before. MayHaveFile (value_view value.now) before) (λ fault. Denies fault ((before : Option TheFile) × MayHaveFile (value_view value.now) before)) }
+{
+    match value.get("before") {
+        Some(found) => Ok(Some(file_of(found)?)),
+        None => Ok(None),
+    }
+}
+
+fn file_of<'a>(value: &Value<'a>) -> Result<FileBefore<'a>, LineFault>
+    ensures { MatchResult result (λ file. IsFileBefore (value_view value.now) file) (λ fault. Denies fault ((file : TheFile) × IsFileBefore (value_view value.now) file)) }
+{
+    if !has_only(value, &["name", "octets", "sha256"]) {
+        return Err(LineFault::NotALine);
+    }
+    let name = text_at(value, "name")?;
+    let octets = number_at(value, "octets")?;
+    let sha256 = sum_at(value, "sha256")?;
+    Ok(FileBefore {
+        name,
+        octets,
+        sha256,
+    })
+}
+
+#[tactic(auto, using(crate::proofs::Lists::lanes_found, crate::proofs::Lists::no_list_of_lanes, crate::proofs::Lists::no_lanes_in))]
+fn starts_at<'a>(alloc: Global, value: &Value<'a>) -> Result<Vec<LaneStart<'a>>, LineFault>
+    ensures { MatchResult result (λ lanes. HasLanes IsLaneStart (value_view value.now) lanes.items) (λ fault. Denies fault ((lanes : List TheStart) × HasLanes IsLaneStart (value_view value.now) lanes)) }
+{
+    starts_of(alloc, lanes_at(value)?)
+}
+
+fn starts_of<'a>(alloc: Global, values: &[Value<'a>]) -> Result<Vec<LaneStart<'a>>, LineFault>
+    ensures { MatchResult result (λ lanes. AreEach IsLaneStart (items_view values.now) lanes.items) (λ fault. Denies fault ((lanes : List TheStart) × AreEach IsLaneStart (items_view values.now) lanes)) }
+{
+    let mut starts = Vec::with_capacity(alloc, values.len())?;
+    for value in values {
+        push(&mut starts, start_of(value)?)?;
+    }
+    Ok(starts)
+}
+
+fn start_of<'a>(value: &Value<'a>) -> Result<LaneStart<'a>, LineFault>
+    ensures { MatchResult result (λ start. IsLaneStart (value_view value.now) start) (λ fault. Denies fault ((start : TheStart) × IsLaneStart (value_view value.now) start)) }
+{
+    if !has_only(value, &["lane", "home", "serial"]) {
+        return Err(LineFault::NotALine);
+    }
+    Ok(LaneStart {
+        lane: short_at(value, "lane")?,
+        home: text_at(value, "home")?,
+        serial: serial_at(value, "serial")?,
+    })
+}
+
+/// Writes a line that names a run, with its line end, behind what these octets are.
+///
+/// # Errors
+///
+/// Where memory is refused.
+pub fn write_begin(alloc: Global, begin: &Begin<'_>, out: Vec<u8>) -> Result<Vec<u8>, AllocError>
+    ensures line { IfOk result (λ all. HasLineBehind out.items all.items) }
+    ensures value { IfOk result (λ all. HasValueBehind out.items all.items (begin_value begin.now)) }
+{
+    let mut writer = Writer::new(out);
+    begin_members(alloc, &mut writer, begin)?;
+    close_line(writer)
+}
+
+fn begin_members(alloc: Global, writer: &mut Writer, begin: &Begin<'_>) -> Result<(), AllocError>
+    ensures { OnOk result (Adds writer.old writer.new (json_tokens (begin_value begin.now))) }
+{
+    first_members(alloc, writer, "begin", begin.run, begin.time)?;
+    text(writer, "version", begin.version)?;
+    number(writer, "file", begin.file)?;
+    digits_if_any(alloc, writer, "sum", begin.sum)?;
+    before_if_any(alloc, writer, begin.before)?;
+    writer.key("lanes")?;
+    lane_starts(writer, begin.lanes.as_slice())?;
+    writer.end_object()
+}
+
+fn before_if_any(
+    alloc: Global,
+    writer: &mut Writer,
+    before: Option<FileBefore<'_>>,
+) -> Result<(), AllocError>
+    ensures { OnOk result (AddsSlots writer.old writer.new ((codes "before", (option_map file_value before.entry)) ∷ [])) }
+{
+    let Some(file) = before else {
+        return Ok(());
+    };
+    writer.key("before")?;
+    file_members(alloc, writer, &file)
+}
+
+fn file_members(alloc: Global, writer: &mut Writer, file: &FileBefore<'_>) -> Result<(), AllocError>
+    ensures { OnOk result (Adds writer.old writer.new (json_tokens (file_value file.now))) }
+{
+    writer.begin_object()?;
+    text(writer, "name", file.name)?;
+    number(writer, "octets", file.octets)?;
+    digits(alloc, writer, "sha256", &file.sha256)?;
+    writer.end_object()
+}
+
+fn lane_starts(writer: &mut Writer, lanes: &[LaneStart<'_>]) -> Result<(), AllocError>
+    ensures { OnOk result (Adds writer.old writer.new (json_tokens (array (items_of start_value lanes.now)))) }
+{
+    writer.begin_array()?;
+    for lane in lanes {
+        lane_start(writer, lane)?;
+    }
+    writer.end_array()
+}
+
+fn lane_start(writer: &mut Writer, lane: &LaneStart<'_>) -> Result<(), AllocError>
+    ensures { OnOk result (Adds writer.old writer.new (json_tokens (start_value lane.now))) }
+{
+    writer.begin_object()?;
+    number(writer, "lane", u64::from(lane.lane))?;
+    text(writer, "home", lane.home)?;
+    number(writer, "serial", lane.serial)?;
+    writer.end_object()
 }

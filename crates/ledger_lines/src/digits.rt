@@ -35,7 +35,6 @@ pub(crate) fn fill(digits: &[u8], octets: &mut [u8]) -> bool
     true
 }
 
-/// The octet of two digits.
 #[inline]
 fn pair(high: u8, low: u8) -> Option<u8>
     ensures { (place : ℕ) → MatchOption result (IsErr (pair_value high low place)) (λ octet. pair_value high low place ≡ Ok octet) }
@@ -58,7 +57,6 @@ const WORTH: [u8; 256] = [
     16, 16, 16, 16, 16, 16, 16, 16, 16, 16, 16, 16, 16, 16,
 ];
 
-/// What an octet is worth as a digit, in either case.
 #[inline]
 fn digit(octet: u8) -> Option<u8>
     ensures value { result ≡ hex_digit_value octet }

@@ -8,7 +8,7 @@ ghost use Rattle.ledger_lines.specs.Lines.{IsBegin, IsEnd, IsEntry, IsLeft, IsLi
 ghost use Rattle.ledger_lines.specs.Same.{GivesBack, IsAnswer, IsSameLine};
 ghost use Rattle.ledger_lines.specs.Written.{IsReadableBegin, IsReadableEnd, IsReadableEntry, IsReadableLeft, begin_value, end_value, entry_value, left_value};
 ghost use Rattle.ledger_lines.specs.declared.begin.Begin.{Begin as TheBegin};
-ghost use Rattle.ledger_lines.specs.declared.begin.End.{End as TheEnd};
+ghost use Rattle.ledger_lines.specs.declared.end.End.{End as TheEnd};
 ghost use Rattle.ledger_lines.specs.declared.faults.LineFault.{LineFault as TheFault};
 ghost use Rattle.ledger_lines.specs.declared.reading.Line.{Line as TheLine};
 ghost use Rattle.ledger_lines.specs.declared.reading.Line.TheVariants.{Begin as begins, Entry as enters, Left as leaves, End as ends};

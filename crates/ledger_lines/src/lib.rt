@@ -5,18 +5,28 @@
 //! which octets are a line, and `specs/Written.antt` what is written.
 #![tactic(auto)]
 
+mod about;
 mod begin;
 mod digits;
+mod end;
+mod entry;
 mod faults;
+mod hidden;
+mod lane_start;
 mod laws;
+mod left;
 mod moments;
 mod reading;
 mod values;
 mod writing;
 
-pub use begin::{Begin, End, FileBefore, Hidden, LaneCount, LaneStart};
+pub use begin::{Begin, FileBefore, write_begin};
+pub use end::{End, LaneCount, write_end};
+pub use entry::write_entry;
 pub use faults::LineFault;
+pub use hidden::Hidden;
+pub use lane_start::LaneStart;
 pub use laws::written_lines_are_read;
+pub use left::write_left;
 pub use moments::moment_of;
 pub use reading::{Line, MOST_LINE_OCTETS, Room, read_line};
-pub use writing::{write_begin, write_end, write_entry, write_left};

@@ -25,14 +25,12 @@ pub(crate) fn is_moment(octets: &[u8]) -> bool
         && two_at(octets, 17) < 60
 }
 
-/// Whether a month of a year has this day.
 fn is_date(year: u64, month: u64, day: u64) -> bool
     ensures { IsTrue result ↔ IsDate year month day }
 {
     1 <= month && month <= 12 && 1 <= day && day <= days_of(year, month)
 }
 
-/// How many days a month has.
 fn days_of(year: u64, month: u64) -> u64
     ensures { result ≡ the_days year month }
 {
@@ -44,14 +42,12 @@ fn days_of(year: u64, month: u64) -> u64
     }
 }
 
-/// Whether a year is a leap year.
 fn is_leap(year: u64) -> bool
     ensures { result ≡ the_leap year }
 {
     year % 4 == 0 && (year % 100 != 0 || year % 400 == 0)
 }
 
-/// Returns the year of a moment.
 fn year_of(octets: &[u8]) -> u64
     ensures year { result ≡ the_year octets.now }
     ensures most { result ≤ 283305 }
@@ -68,7 +64,6 @@ fn two_at(octets: &[u8], place: usize) -> u64
     10 * digit_at(octets, place) + digit_at(octets, place + 1)
 }
 
-/// Returns the digit at a place.
 fn digit_at(octets: &[u8], place: usize) -> u64
     ensures digit { result ≡ the_digit octets.now place }
     ensures most { result ≤ 255 }

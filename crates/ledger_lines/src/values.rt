@@ -1,19 +1,18 @@
 //! What a line has at its keys.
 
-ghost use Rattle.std.specs.Prelude.{◌≡◌, ◌↔◌, ◌^◌, ◌<◌, ℕ, List, Option, codes, length, map, MatchOption, MatchResult, IsTrue, option_copied, option_map};
-ghost use Rattle.std.specs.List.{All, Contains};
+ghost use Rattle.std.specs.Prelude.{◌≡◌, ◌++◌, [], ◌∷◌, IfErr, List, MatchResult, OnOk, Option, option_copied, option_map, ◌<◌, ◌^◌, ◌↔◌, ℕ, length, map, MatchOption, IsTrue};
+ghost use Rattle.json.specs.Value.{items_view, value_view, members_view};
+ghost use Rattle.ledger_lines.specs.declared.faults.LineFault.TheVariants.{OutOfMemory};
+ghost use Rattle.ledger_lines.specs.Lines.{Denies, HasText, as_items, HasArray, HasAuthenticator, HasClient, HasList, HasNumber, HasOctets, HasOnly, HasRun, HasTime, HasTimeForm, has_form, IsTime, IsValue, MayHaveNumber, MayHaveSum, MayHaveTime, MayHaveWords};
 ghost use Rattle.json.specs.Json.{Items, Json};
+ghost use Rattle.std.specs.List.{All, Contains};
 ghost use Rattle.json.specs.Strict.{keys};
-ghost use Rattle.json.specs.Value.{items_view, members_view, value_view};
 ghost use Rattle.ledger_lines.specs.internal.Known.{IsAbsent};
-ghost use Rattle.rad_ledger.specs.declared.left.LeftState.{LeftState as TheState};
-ghost use Rattle.ledger_lines.specs.Lines.{as_items, Denies, HasArray, HasAuthenticator, HasClient, HasList, HasNumber, HasOctets, HasOnly, HasRun, HasText, HasState, HasTime, HasTimeForm, has_form, IsTime, IsValue, MayHaveNumber, MayHaveSum, MayHaveTime, MayHaveWords};
 
 use crate::digits::{fill, octets_of};
 use crate::faults::LineFault;
 use crate::moments::is_moment;
 use json::{Error, Scratch, Value};
-use rad_ledger::LeftState;
 use rad_realms::read_address;
 use std::alloc::Global;
 
@@ -46,7 +45,6 @@ pub(crate) fn has_only(value: &Value<'_>, known: &[&str]) -> bool
     }
 }
 
-/// Whether the keys of members are among these.
 fn are_known(members: &[(&str, Value<'_>)], known: &[&str]) -> bool
     ensures { IsTrue result ↔ All (Contains (map (λ k. k.now) known.now)) (keys (members_view members.now)) }
 {
@@ -70,7 +68,6 @@ fn place_near(known: &[&str], likely: usize, key: &str) -> Option<usize>
     }
 }
 
-/// The first place of a key among these, from a place on.
 fn place_from(known: &[&str], from: usize, key: &str) -> Option<usize>
     ensures { MatchOption result (IsAbsent (map (λ k. k.now) known.now) from key.now) (λ place. (place < length known.now) × Contains (map (λ k. k.now) known.now) key.now) }
 {
@@ -82,7 +79,6 @@ fn place_from(known: &[&str], from: usize, key: &str) -> Option<usize>
     None
 }
 
-/// The text at a key.
 #[tactic(auto, using(crate::proofs::Found::text_found, crate::proofs::Found::no_text, crate::proofs::Found::no_text_there))]
 pub(crate) fn text_at<'a>(value: &Value<'a>, key: &str) -> Result<&'a str, LineFault>
     ensures { MatchResult result (λ text. HasText key.now (value_view value.now) text.now) (λ fault. Denies fault ((text : List ℕ) × HasText key.now (value_view value.now) text)) }
@@ -96,7 +92,6 @@ pub(crate) fn text_at<'a>(value: &Value<'a>, key: &str) -> Result<&'a str, LineF
     }
 }
 
-/// The number at a key, below 2^64.
 #[tactic(auto, using(crate::proofs::Found::number_found, crate::proofs::Found::no_number, crate::proofs::Found::no_number_there))]
 pub(crate) fn number_at(value: &Value<'_>, key: &str) -> Result<u64, LineFault>
     ensures { MatchResult result (λ its. HasNumber key.now (2 ^ 64) (value_view value.now) its) (λ fault. Denies fault ((its : ℕ) × HasNumber key.now (2 ^ 64) (value_view value.now) its)) }
@@ -110,7 +105,6 @@ pub(crate) fn number_at(value: &Value<'_>, key: &str) -> Result<u64, LineFault>
     }
 }
 
-/// The number at a key, below 2^63.
 #[tactic(auto, using(crate::proofs::Found::narrower, crate::proofs::Found::too_large, crate::proofs::Found::none_below))]
 pub(crate) fn serial_at(value: &Value<'_>, key: &str) -> Result<u64, LineFault>
     ensures { MatchResult result (λ its. HasNumber key.now (2 ^ 63) (value_view value.now) its) (λ fault. Denies fault ((its : ℕ) × HasNumber key.now (2 ^ 63) (value_view value.now) its)) }
@@ -123,7 +117,6 @@ pub(crate) fn serial_at(value: &Value<'_>, key: &str) -> Result<u64, LineFault>
     }
 }
 
-/// The number at a key, below 2^16.
 #[tactic(auto, using(crate::proofs::Found::narrower, crate::proofs::Found::too_large, crate::proofs::Found::none_below))]
 pub(crate) fn short_at(value: &Value<'_>, key: &str) -> Result<u16, LineFault>
     ensures { MatchResult result (λ its. HasNumber key.now (2 ^ 16) (value_view value.now) its) (λ fault. Denies fault ((its : ℕ) × HasNumber key.now (2 ^ 16) (value_view value.now) its)) }
@@ -134,7 +127,6 @@ pub(crate) fn short_at(value: &Value<'_>, key: &str) -> Result<u16, LineFault>
     }
 }
 
-/// The number at a key, below 2^8.
 #[tactic(auto, using(crate::proofs::Found::narrower, crate::proofs::Found::too_large, crate::proofs::Found::none_below))]
 pub(crate) fn octet_at(value: &Value<'_>, key: &str) -> Result<u8, LineFault>
     ensures { MatchResult result (λ its. HasNumber key.now (2 ^ 8) (value_view value.now) its) (λ fault. Denies fault ((its : ℕ) × HasNumber key.now (2 ^ 8) (value_view value.now) its)) }
@@ -199,7 +191,6 @@ pub(crate) fn sum_at(value: &Value<'_>, key: &str) -> Result<[u8; 32], LineFault
     }
 }
 
-/// A SHA-256 at a key, where there is one.
 pub(crate) fn sum_if_any_at(value: &Value<'_>, key: &str) -> Result<Option<[u8; 32]>, LineFault>
     ensures { MatchResult result (λ sum. MayHaveSum key.now (value_view value.now) sum) (λ fault. Denies fault ((sum : Option (List ℕ)) × MayHaveSum key.now (value_view value.now) sum)) }
 {
@@ -209,7 +200,6 @@ pub(crate) fn sum_if_any_at(value: &Value<'_>, key: &str) -> Result<Option<[u8; 
     Ok(Some(sum_at(value, key)?))
 }
 
-/// The moment at a key.
 #[tactic(auto, using(crate::proofs::Parts::time_found, crate::proofs::Parts::no_time, crate::proofs::Parts::no_time_text))]
 pub(crate) fn time_at<'a>(value: &Value<'a>, key: &str) -> Result<&'a str, LineFault>
     ensures { MatchResult result (λ time. HasTime key.now (value_view value.now) time.now) (λ fault. Denies fault ((time : List ℕ) × HasTime key.now (value_view value.now) time)) }
@@ -222,7 +212,6 @@ pub(crate) fn time_at<'a>(value: &Value<'a>, key: &str) -> Result<&'a str, LineF
     }
 }
 
-/// The moment at a key, where there is one.
 pub(crate) fn time_if_any_at<'a>(value: &Value<'a>, key: &str) -> Result<Option<&'a str>, LineFault>
     ensures { MatchResult result (λ time. MayHaveTime key.now (value_view value.now) (option_copied time)) (λ fault. Denies fault ((time : Option (List ℕ)) × MayHaveTime key.now (value_view value.now) time)) }
 {
@@ -230,18 +219,6 @@ pub(crate) fn time_if_any_at<'a>(value: &Value<'a>, key: &str) -> Result<Option<
         return Ok(None);
     }
     Ok(Some(time_at(value, key)?))
-}
-
-/// How a request was left.
-pub(crate) fn state_at(value: &Value<'_>) -> Result<LeftState, LineFault>
-    ensures { MatchResult result (λ state. HasState (value_view value.now) state) (λ fault. Denies fault ((state : TheState) × HasState (value_view value.now) state)) }
-{
-    match text_at(value, "state")? {
-        "queued" => Ok(LeftState::Queued),
-        "outstanding" => Ok(LeftState::Outstanding),
-        "untaken" => Ok(LeftState::Untaken),
-        _ => Err(LineFault::NotALine),
-    }
 }
 
 /// The form of a moment: `d` stands for a digit.
@@ -280,7 +257,6 @@ fn fits(form: u8, octet: u8) -> bool
     }
 }
 
-/// The client's address.
 #[tactic(auto, using(crate::proofs::Parts::client_found, crate::proofs::Parts::no_client, crate::proofs::Parts::no_client_text))]
 pub(crate) fn client_at(value: &Value<'_>) -> Result<[u8; 4], LineFault>
     ensures { MatchResult result (λ client. HasClient (value_view value.now) client) (λ fault. Denies fault ((client : List ℕ) × HasClient (value_view value.now) client)) }
@@ -316,7 +292,6 @@ pub(crate) fn words_at<'a>(
     }
 }
 
-/// The number at a key, below 2^32, where there is one.
 pub(crate) fn count_at(value: &Value<'_>, key: &str) -> Result<Option<u32>, LineFault>
     ensures { MatchResult result (λ its. MayHaveNumber key.now (2 ^ 32) (value_view value.now) its) (λ fault. Denies fault ((its : Option ℕ) × MayHaveNumber key.now (2 ^ 32) (value_view value.now) its)) }
 {
@@ -329,7 +304,6 @@ pub(crate) fn count_at(value: &Value<'_>, key: &str) -> Result<Option<u32>, Line
     }
 }
 
-/// The number at a key, below 2^64, where there is one.
 pub(crate) fn amount_at(value: &Value<'_>, key: &str) -> Result<Option<u64>, LineFault>
     ensures { MatchResult result (λ its. MayHaveNumber key.now (2 ^ 64) (value_view value.now) its) (λ fault. Denies fault ((its : Option ℕ) × MayHaveNumber key.now (2 ^ 64) (value_view value.now) its)) }
 {
@@ -339,7 +313,6 @@ pub(crate) fn amount_at(value: &Value<'_>, key: &str) -> Result<Option<u64>, Lin
     Ok(Some(number_at(value, key)?))
 }
 
-/// The values of the list of lanes.
 #[tactic(auto, using(crate::proofs::Lists::list_found, crate::proofs::Lists::no_list, crate::proofs::Lists::no_list_there))]
 pub(crate) fn lanes_at<'v, 'a>(value: &'v Value<'a>) -> Result<&'v [Value<'a>], LineFault>
     ensures { MatchResult result (λ values. HasList (value_view value.now) (items_view values.now)) (λ fault. Denies fault ((items : Items) × HasList (value_view value.now) items)) }
@@ -353,7 +326,6 @@ pub(crate) fn lanes_at<'v, 'a>(value: &'v Value<'a>) -> Result<&'v [Value<'a>], 
     }
 }
 
-/// The values of a list.
 fn items_of<'v, 'a>(value: &'v Value<'a>) -> Option<&'v [Value<'a>]>
     ensures { option_map (λ values. items_view values.now) result ≡ as_items (value_view value.now) }
 {
@@ -361,5 +333,15 @@ fn items_of<'v, 'a>(value: &'v Value<'a>) -> Option<&'v [Value<'a>]>
         Some(values.as_slice())
     } else {
         None
+    }
+}
+
+pub(crate) fn push<T: Drop>(list: &mut Vec<T>, value: T) -> Result<(), LineFault>
+    ensures pushed { OnOk result (list.new.items ≡ list.old.items ++ value ∷ []) }
+    ensures refused { IfErr result (λ fault. fault ≡ OutOfMemory) }
+{
+    match list.push(value) {
+        Ok(()) => Ok(()),
+        Err(_) => Err(LineFault::OutOfMemory),
     }
 }

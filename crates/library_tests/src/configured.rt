@@ -4,7 +4,28 @@ use rad_realms::{Config, read_config};
 use std::alloc::Global;
 use std::test::Fail;
 
+/// A client, a realm and its home server, whose table is the last.
+const ONE_HOME: &str = r#"
+listen = "127.0.0.1:1813"
+[[client]]
+address = "10.0.0.1"
+secret = "nas-secret"
+[[realm]]
+name = "example.org"
+home = "h1"
+[[home]]
+name = "h1"
+address = "127.0.0.1:2813"
+secret = "home-secret"
+"#;
+
 /// Reads a configuration.
 pub fn configured(alloc: Global, text: &str) -> Result<Config, Fail> {
     Ok(read_config(alloc, text)?)
+}
+
+/// Reads the configuration of one client and one home server, which has these keys.
+pub fn with_one_home(alloc: Global, keys: &str) -> Result<Config, Fail> {
+    let text = format!(in alloc; "{ONE_HOME}{keys}")?;
+    configured(alloc, &text)
 }

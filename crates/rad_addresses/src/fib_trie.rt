@@ -57,7 +57,6 @@ fn add_if_local(
     }
 }
 
-/// Returns whether a line says that the address above it is local.
 #[tactic(auto, unfolding(crate::specs::FibTrie::is_local))]
 fn tells_local(line: &str) -> bool
     ensures { result ≡ is_local line.now }

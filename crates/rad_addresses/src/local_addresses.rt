@@ -1,7 +1,7 @@
 //! Reading which addresses this machine has.
 
 use crate::fib_trie::list_local;
-use rad_console::read_at_most;
+use rad_files::read_at_most;
 use std::alloc::Global;
 use std::fs;
 use std::io::{self, Error, ErrorKind};

@@ -127,7 +127,6 @@ impl Origins {
         self.clients.as_slice().binary_search(&address)
     }
 
-    /// Returns the index of the row of an address and port.
     fn row_of(&self, peer: Endpoint) -> usize {
         let [a, b, c, d] = peer.address;
         let [e, f] = peer.port.to_be_bytes();
@@ -136,7 +135,6 @@ impl Origins {
     }
 }
 
-/// Returns the addresses of these clients, sorted.
 fn sorted_addresses(alloc: Global, clients: &[Client]) -> Result<Vec<[u8; 4]>, AllocError> {
     let mut addresses = Vec::with_capacity(alloc, clients.len())?;
     for client in clients {

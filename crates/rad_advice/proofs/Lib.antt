@@ -1,5 +1,5 @@
 mod Distances
-mod Listed
+mod EachDoubt
 mod Items
 mod LastLines
 mod Lists

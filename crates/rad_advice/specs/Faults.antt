@@ -1,5 +1,5 @@
 -- What is told of each fault of a configuration (own): the value, if it can be no secret, and a hint.
-use Rattle.std.specs.Prelude.{ℕ, nat_le, int_lt, pos, Bool, true, false, not, ◌==◌, List, [], ◌++◌, length, map, filter, codes, Option, Some, None, option_and_then, IfSome, string_bytes, if◌then◌else◌}
+use Rattle.std.specs.Prelude.{ℕ, nat_le, int_lt, pos, Bool, true, false, not, ◌==◌, List, [], ◌++◌, length, map, filter, codes, Option, Some, None, option_and_then, IfSome, if◌then◌else◌}
 use Rattle.std.specs.List.{list_any}
 use Rattle.std.specs.Char.{is_ascii_alphabetic}
 use Rattle.std.specs.Fmt.{signed_decimal, decimal}
@@ -172,7 +172,7 @@ pub record FaultEntry : Type 0 where
 
 abbrev pub shown_text : Shown → List ℕ
 shown_text shown.Nothing = []
-shown_text (shown.Text text) = codes ": " ++ name_text (string_bytes text)
+shown_text (shown.Text text) = codes ": " ++ name_text text.now
 shown_text (shown.Number number) = codes ": " ++ signed_decimal number
 
 abbrev pub entry_told : FaultReport → FaultEntry

@@ -1,6 +1,6 @@
 -- The keys of a configuration that are not read (own): in the tables of each part, those that the walk over a document
 -- does not look for. Keys inside the value of such a key are not read either, and are not reported separately.
-use Rattle.std.specs.Prelude.{◌≡◌, ℕ, ◌+◌, ◌≤◌, Bool, if◌then◌else◌, List, [], ◌∷◌, ◌++◌, length, map, drop, Option, Some, None, option_map, option_and_then, unwrap_or, IfSome, string_bytes}
+use Rattle.std.specs.Prelude.{◌≡◌, ℕ, ◌+◌, ◌≤◌, Bool, if◌then◌else◌, List, [], ◌∷◌, ◌++◌, length, map, drop, Option, Some, None, option_map, option_and_then, unwrap_or, IfSome}
 use Rattle.std.specs.List.{list_any}
 use Rattle.std.specs.Str.{bytes_eq}
 use Rattle.toml_parser.specs.Strings.{Key as Parts, key}
@@ -75,12 +75,12 @@ unread_or_none (Some doc) = unread_in doc
 abbrev pub unread_in_text : List ℕ → List UnreadEntry
 unread_in_text text = unread_or_none (parse_document text)
 
--- The entry of a key that is listed, and of one that was found in a document.
-abbrev pub entry_listed : UnreadKey → UnreadEntry
-entry_listed k = record { part = k.part; index = k.index; name = string_bytes k.name }
-
+-- The entry of a key that was found in a document, and of one that is listed.
 abbrev pub entry_found : Unread → UnreadEntry
 entry_found k = record { part = k.part; index = k.index; name = k.name.now }
+
+abbrev pub entry_listed : UnreadKey → UnreadEntry
+entry_listed k = entry_found k.key
 
 -- The first part of a key.
 abbrev pub first_part : Parts → List ℕ
@@ -98,5 +98,5 @@ BeginsAtPlace text name place = (offset : ℕ) × (offset ≤ length text) × Be
 -- If a key's place is known, a key whose first part has its name begins there. Its name is told if it is near that of a key
 -- that is read in its table.
 pub record IsReportedIn (text : List ℕ) (k : UnreadKey) : Type 0 where
-  pub place : IfSome k.place (BeginsAtPlace text (string_bytes k.name))
-  pub near : k.is_near ≡ is_near_one_of (read_names k.part) (string_bytes k.name)
+  pub place : IfSome k.place (BeginsAtPlace text k.key.name.now)
+  pub near : k.is_near ≡ is_near_one_of (read_names k.key.part) k.key.name.now

@@ -34,7 +34,7 @@ abbrev pub key_text : Bool → List ℕ → List ℕ
 key_text near name = if near then name_text name else codes "a key"
 
 abbrev pub unread_text : UnreadKey → List ℕ
-unread_text k = table_text k.part k.index ++ key_text k.is_near (string_bytes k.name) ++ at_text k.place
+unread_text k = table_text k.key.part k.key.index ++ key_text k.is_near k.key.name.now ++ at_text k.place
 
 abbrev pub address_fault_text : AddressFault → List ℕ
 address_fault_text Listen = codes "listen serves it, so requests would come back"

@@ -4,11 +4,12 @@ ghost use Rattle.std.specs.Prelude.{◌≡◌, ◌-◌, ◌<◌, ◌≤◌, ◌+
 ghost use Rattle.std.specs.List.{list_any};
 ghost use Rattle.std.specs.Str.{bytes_eq};
 ghost use Rattle.rad_realms.specs.Spot.{key_name};
-ghost use Rattle.rad_advice.specs.Keys.{BeginsAtPlace};
 ghost use Rattle.rad_advice.specs.Doubts.{about, example_secrets, is_control as controls, secret_doubt as doubt_of, secret_doubts, client_doubts, leads_nowhere as nothing_leads, is_unused as unused, is_shared as shared, is_default as is_default_lane, home_doubts, realm_doubt as doubt_of_realm, realm_doubts, each_doubt, doubts_in, doubtful_told, IsWarnedIn};
 
+use crate::config_text::ConfigText;
 use crate::finding::find_key;
-use crate::place::{AtText, Place, place_of};
+use crate::listed::{Listed, list_first};
+use crate::place::{AtText, Place};
 use crate::unread::TableText;
 use rad_realms::{Client, Config, Endpoint, Home, Key, Part, Realm, Spot};
 use std::alloc::{AllocError, Global};
@@ -59,7 +60,6 @@ impl Doubt {
         }
     }
 
-    /// Returns it as it is printed.
     fn text(self) -> &'static str
         ensures { result.now ≡ doubt_text self }
     {
@@ -116,76 +116,47 @@ impl fmt::Display for Warning {
     }
 }
 
-/// The first warnings about a configuration, and the number of the others.
-#[derive(Drop)]
-pub struct Warnings {
-    /// The first ones, at most 50.
-    listed: Vec<Warning>,
-    /// The number of the others.
-    more: usize,
-}
-
-impl Warnings {
-    /// Returns the first ones, at most 50: that nothing leads anywhere; then those about each client, each home server
-    /// and each realm.
-    pub fn listed(&self) -> &[Warning]
-        ensures { result.now ≡ self.now.listed.items }
-    {
-        self.listed.as_slice()
-    }
-
-    /// Returns the number of those that are not listed.
-    pub fn more(&self) -> usize
-        ensures { result ≡ self.now.more }
-    {
-        self.more
-    }
-}
-
-/// Returns the warnings about a configuration that was read from this text.
+/// Returns the first 50 warnings about a configuration that was read from this text: that nothing leads anywhere; then those
+/// about each client, each home server and each realm.
 ///
 /// # Errors
 ///
 /// If memory is refused.
-pub fn list_warnings(alloc: Global, config: &Config, text: &str) -> Result<Warnings, AllocError>
-    ensures first { IfOk result (λ warnings. map doubtful_told warnings.listed.items ≡ take 50 (doubts_in config.now)) }
+pub fn list_warnings(
+    alloc: Global,
+    config: &Config,
+    text: &ConfigText<'_>,
+) -> Result<Listed<Warning>, AllocError>
+    ensures first { IfOk result (λ warnings. map doubtful_told warnings.first.items ≡ take 50 (doubts_in config.now)) }
     ensures more { IfOk result (λ warnings. warnings.more ≡ length (doubts_in config.now) - 50) }
-    ensures places { IfOk result (λ warnings. All (IsWarnedIn text.now) warnings.listed.items) }
+    ensures places { IfOk result (λ warnings. All (IsWarnedIn text.now) warnings.first.items) }
 {
     let doubts = list_doubts(alloc, config)?;
-    warn_first(alloc, text, doubts.as_slice())
+    warn_first(alloc, text.as_str(), doubts.as_slice())
 }
 
-/// Warns of the first of these doubts.
-fn warn_first(alloc: Global, text: &str, doubts: &[Doubtful]) -> Result<Warnings, AllocError>
-    ensures first { IfOk result (λ warnings. map doubtful_told warnings.listed.items ≡ take 50 doubts.now) }
+fn warn_first(alloc: Global, text: &str, doubts: &[Doubtful]) -> Result<Listed<Warning>, AllocError>
+    ensures first { IfOk result (λ warnings. map doubtful_told warnings.first.items ≡ take 50 doubts.now) }
     ensures more { IfOk result (λ warnings. warnings.more ≡ length doubts.now - 50) }
-    ensures places { IfOk result (λ warnings. All (IsWarnedIn text.now) warnings.listed.items) }
+    ensures places { IfOk result (λ warnings. All (IsWarnedIn text.now) warnings.first.items) }
 {
-    let count = doubts.len().min(MOST_LISTED);
-    let mut listed = Vec::new(alloc);
-    for doubtful in &doubts[..count] {
-        let warning = warning_of(alloc, text, *doubtful)?;
-        listed.push(warning)?;
-    }
-    let more = doubts.len() - count;
-    Ok(Warnings { listed, more })
+    list_first(
+        alloc,
+        doubts,
+        MOST_LISTED,
+        |doubtful| warning_of(alloc, text, doubtful),
+    )
 }
 
-/// Returns the warning of a doubt.
 fn warning_of(alloc: Global, text: &str, doubtful: Doubtful) -> Result<Warning, AllocError>
     ensures entry { IfOk result (λ warning. doubtful_told warning ≡ doubtful) }
     ensures place { IfOk result (λ warning. IsWarnedIn text.now warning) }
 {
     let Spot { part, index, key } = doubtful.spot;
-    let place = match find_key(alloc, text, part, index, key.name())? {
-        Some(offset) => Some(place_of(text.as_bytes(), offset)),
-        None => None,
-    };
+    let place = find_key(alloc, text, part, index, key.name())?;
     Ok(Warning { doubtful, place })
 }
 
-/// Returns the doubts about a configuration.
 fn list_doubts(alloc: Global, config: &Config) -> Result<Vec<Doubtful>, AllocError>
     ensures { IfOk result (λ doubts. doubts.items ≡ doubts_in config.now) }
 {
@@ -194,7 +165,6 @@ fn list_doubts(alloc: Global, config: &Config) -> Result<Vec<Doubtful>, AllocErr
     Ok(doubts)
 }
 
-/// Appends the doubts about a configuration.
 #[tactic(auto, unfolding(crate::specs::Doubts::doubts_in))]
 fn add_of_config(doubts: &mut Vec<Doubtful>, config: &Config) -> Result<(), AllocError>
     ensures { OnOk result (doubts.new.items ≡ doubts.old.items ++ doubts_in config.now) }
@@ -206,14 +176,12 @@ fn add_of_config(doubts: &mut Vec<Doubtful>, config: &Config) -> Result<(), Allo
     add_of_realms(doubts, config.realms())
 }
 
-/// Returns a doubt, if the test says so.
 fn doubt_if(test: bool, doubt: Doubt) -> Option<Doubt>
     ensures { result ≡ (if test then Some doubt else None) }
 {
     if test { Some(doubt) } else { None }
 }
 
-/// Appends the doubts about the clients.
 fn add_of_clients(doubts: &mut Vec<Doubtful>, clients: &[Client]) -> Result<(), AllocError>
     ensures { OnOk result (doubts.new.items ≡ doubts.old.items ++ each_doubt client_doubts 0 clients.now) }
 {
@@ -225,7 +193,6 @@ fn add_of_clients(doubts: &mut Vec<Doubtful>, clients: &[Client]) -> Result<(), 
     Ok(())
 }
 
-/// Appends the doubt about a client, if there is one.
 fn add_of_client(
     doubts: &mut Vec<Doubtful>,
     index: usize,
@@ -236,7 +203,6 @@ fn add_of_client(
     add_of_secret(doubts, Part::Client, index, client.secret().octets())
 }
 
-/// Appends the doubts about the home servers.
 fn add_of_homes(
     doubts: &mut Vec<Doubtful>,
     config: &Config,
@@ -253,7 +219,6 @@ fn add_of_homes(
     Ok(())
 }
 
-/// Appends the doubts about the home server of this index, given the earlier ones.
 #[tactic(auto, unfolding(crate::specs::Doubts::home_doubts))]
 fn add_of_home(
     doubts: &mut Vec<Doubtful>,
@@ -278,14 +243,12 @@ fn add_of_home(
     add_doubt(doubts, Part::Home, index, Key::Span, short)
 }
 
-/// Whether the span of a home server is below 5000 ms.
 fn has_short_span(home: &Home) -> bool
     ensures { result ≡ nat_lt home.now.limits.span 5000 }
 {
     home.limits().numbers().span < 5000
 }
 
-/// Appends the doubts about the realms.
 fn add_of_realms(doubts: &mut Vec<Doubtful>, realms: &[Realm]) -> Result<(), AllocError>
     ensures { OnOk result (doubts.new.items ≡ doubts.old.items ++ each_doubt realm_doubts 0 realms.now) }
 {
@@ -297,7 +260,6 @@ fn add_of_realms(doubts: &mut Vec<Doubtful>, realms: &[Realm]) -> Result<(), All
     Ok(())
 }
 
-/// Appends the doubt about a realm, if there is one.
 fn add_of_realm(doubts: &mut Vec<Doubtful>, index: usize, realm: &Realm) -> Result<(), AllocError>
     ensures { OnOk result (doubts.new.items ≡ doubts.old.items ++ realm_doubts index realm.now) }
 {
@@ -305,7 +267,6 @@ fn add_of_realm(doubts: &mut Vec<Doubtful>, index: usize, realm: &Realm) -> Resu
     add_doubt(doubts, Part::Realm, index, Key::Name, doubt)
 }
 
-/// Appends a doubt, if there is one.
 fn add_doubt(
     doubts: &mut Vec<Doubtful>,
     part: Part,
@@ -322,7 +283,6 @@ fn add_doubt(
     Ok(())
 }
 
-/// Appends the doubt about a secret, if there is one.
 fn add_of_secret(
     doubts: &mut Vec<Doubtful>,
     part: Part,
@@ -334,14 +294,12 @@ fn add_of_secret(
     add_doubt(doubts, part, index, Key::Secret, secret_doubt(secret))
 }
 
-/// Whether there is no realm and no default home server.
 fn leads_nowhere(config: &Config) -> bool
     ensures { result ≡ nothing_leads config.now }
 {
     config.realms().is_empty() && config.lane_of(None).is_none()
 }
 
-/// Whether no realm leads to a lane and it is not the default, though there is a realm or a default.
 fn is_unused(config: &Config, lane: usize) -> bool
     ensures { result ≡ unused config.now lane }
 {
@@ -351,7 +309,6 @@ fn is_unused(config: &Config, lane: usize) -> bool
     !has_realm(config.realms(), lane) && !is_default(config.lane_of(None), lane)
 }
 
-/// Whether a lane is the default.
 fn is_default(default: Option<u16>, lane: usize) -> bool
     ensures { result ≡ is_default_lane default lane }
 {
@@ -361,21 +318,18 @@ fn is_default(default: Option<u16>, lane: usize) -> bool
     }
 }
 
-/// Whether one of these home servers has this address and port.
 fn is_shared(earlier: &[Home], endpoint: Endpoint) -> bool
     ensures { result ≡ shared earlier.now endpoint }
 {
     earlier.iter().any(|home| is_at(home, endpoint))
 }
 
-/// Whether a home server has this address and port.
 fn is_at(home: &Home, endpoint: Endpoint) -> bool
     ensures { result ≡ (home.now.endpoint.port == endpoint.port && bytes_eq home.now.endpoint.address endpoint.address) }
 {
     home.port() == endpoint.port && home.address() == endpoint.address
 }
 
-/// Returns the doubt about a secret, if there is one.
 fn secret_doubt(secret: &[u8]) -> Option<Doubt>
     ensures { result ≡ doubt_of secret.now }
 {
@@ -410,21 +364,18 @@ fn examples() -> &'static [&'static str]
     ]
 }
 
-/// Whether a secret is that of an installed example.
 fn is_example(secret: &[u8]) -> bool
     ensures { result ≡ list_any (λ example. bytes_eq example secret.now) example_secrets }
 {
     has_text(examples(), secret)
 }
 
-/// Whether an octet of a secret is an ASCII control character.
 fn has_control(secret: &[u8]) -> bool
     ensures { result ≡ list_any controls secret.now }
 {
     secret.iter().any(|octet| *octet < 32 || *octet == 127)
 }
 
-/// Returns the doubt about a realm's name, if there is one.
 fn realm_doubt(name: &[u8]) -> Option<Doubt>
     ensures { result ≡ doubt_of_realm name.now }
 {

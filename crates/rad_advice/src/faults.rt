@@ -1,6 +1,6 @@
 //! The faults of a configuration, as its operator is told of them.
 
-ghost use Rattle.std.specs.Prelude.{◌≡◌, ◌-◌, ◌++◌, [], All, codes, length, map, take, option_map, option_and_then, IfOk, IfSome, OnOk, IsUtf8, string_bytes, Some, if◌then◌else◌};
+ghost use Rattle.std.specs.Prelude.{◌≡◌, ◌-◌, ◌++◌, [], All, codes, length, map, take, option_map, IfOk, IfSome, Some, if◌then◌else◌};
 ghost use Rattle.toml.specs.Data.{as_str, at, get};
 ghost use Rattle.toml.specs.View.{view, table_view};
 ghost use Rattle.rad_realms.specs.Spot.{key_name, part_name};
@@ -10,10 +10,12 @@ ghost use Rattle.rad_advice.specs.Printed.{name_text};
 ghost use Rattle.rad_advice.specs.Telling.{is_told};
 ghost use Rattle.rad_advice.specs.Faults.{data_at, data_text, text_at as told_text, value_text, spot_in, shown_text, entry_told, entry_of, entries_in, entries_in_text, sought as name_sought, key_sought, is_top, IsPlacedIn};
 
+use crate::config_text::ConfigText;
 use crate::finding::{find_key, find_table};
 use crate::hints::hint_of;
+use crate::listed::{Listed, list_first};
 use crate::name_text::NameText;
-use crate::place::{AtText, Place, place_of};
+use crate::place::{AtText, Place};
 use crate::unread::member;
 use rad_realms::{ConfigFault, Key, Part, Spot, list_faults};
 use std::alloc::{AllocError, Global};
@@ -26,14 +28,12 @@ const MOST_LISTED: usize = 50;
 /// A fault of a configuration. It is printed as its name and spot, its place, the value, if it can be no secret, and a
 /// hint: `BadAddress at client 0 address at line 4, column 1: 10.2.0.0/16: it is a block: one [[client]] for each address`.
 /// The value is cut if it is long.
-#[derive(Drop)]
-pub struct FaultReport {
-    /// The fault.
+#[derive(Clone, Copy)]
+pub struct FaultReport<'t> {
     fault: ConfigFault,
     /// The place of its key; or of the header of its table, if the key is absent.
     place: Option<Place>,
-    /// The value.
-    value: Shown,
+    value: Shown<'t>,
     /// What the value seems to be, or should be.
     hint: &'static str,
     /// The place of the first key with the same value, if it is a name that two tables have.
@@ -41,32 +41,15 @@ pub struct FaultReport {
 }
 
 /// A value that is told.
-#[derive(Drop)]
-enum Shown {
+#[derive(Clone, Copy)]
+enum Shown<'t> {
     /// A secret, or a value that may be one; an absent value, or one of another type.
     Nothing,
-    Text(String),
+    Text(&'t str),
     Number(i64),
 }
 
-impl FaultReport {
-    /// Returns the fault.
-    pub fn fault(&self) -> ConfigFault
-        ensures { result ≡ self.now.fault }
-    {
-        self.fault
-    }
-
-    /// Returns the place of its key in the text, or that of the header of its table, if the key is absent. It is `None`
-    /// if this was not found.
-    pub fn place(&self) -> Option<Place>
-        ensures { result ≡ self.now.place }
-    {
-        self.place
-    }
-}
-
-impl fmt::Display for FaultReport {
+impl fmt::Display for FaultReport<'_> {
     ghost use Rattle.std.specs.Prelude.{Some};
     ghost use Rattle.rad_advice.specs.Faults.{report_text};
 
@@ -75,14 +58,14 @@ impl fmt::Display for FaultReport {
     fn fmt<W: fmt::Write>(&self, f: &mut fmt::Formatter<W>) -> fmt::Result {
         let fault = self.fault;
         let at = AtText(self.place);
-        let value = &self.value;
+        let value = self.value;
         let hint = self.hint;
         let first = FirstText(self.first);
         write!(f, "{fault}{at}{value}{hint}{first}")
     }
 }
 
-impl fmt::Display for Shown {
+impl fmt::Display for Shown<'_> {
     ghost use Rattle.std.specs.Prelude.{Some};
     ghost use Rattle.rad_advice.specs.Faults.{shown_text};
 
@@ -92,7 +75,7 @@ impl fmt::Display for Shown {
         match self {
             Shown::Nothing => Ok(()),
             Shown::Text(text) => {
-                let text = NameText(text.as_str());
+                let text = NameText(text);
                 write!(f, ": {text}")
             }
             Shown::Number(number) => write!(f, ": {number}"),
@@ -121,114 +104,51 @@ impl fmt::Display for FirstText {
     }
 }
 
-/// The first faults of a configuration, and the number of the others.
-#[derive(Drop)]
-pub struct FaultReports {
-    /// The first ones, at most 50.
-    listed: Vec<FaultReport>,
-    /// The number of the others.
-    more: usize,
-}
-
-impl FaultReports {
-    /// Returns the first ones, at most 50, in the order in which the configuration is read. The first of them is the
-    /// one for which it is refused.
-    pub fn listed(&self) -> &[FaultReport]
-        ensures { result.now ≡ self.now.listed.items }
-    {
-        self.listed.as_slice()
-    }
-
-    /// Returns the number of those that are not listed.
-    pub fn more(&self) -> usize
-        ensures { result ≡ self.now.more }
-    {
-        self.more
-    }
-}
-
-/// Returns the faults of a configuration's text. There are none if the text is not TOML. It takes the memory that
-/// reading the text takes.
+/// Returns the first 50 faults of a configuration's text, in the order in which it is read. The first of them is the one for
+/// which it is refused.
 ///
 /// # Errors
 ///
 /// If memory is refused.
-pub fn fault_reports(alloc: Global, text: &[u8]) -> Result<FaultReports, AllocError>
-    ensures first { IsUtf8 text.now → IfOk result (λ reports. map entry_told reports.listed.items ≡ take 50 (entries_in_text text.now)) }
-    ensures more { IsUtf8 text.now → IfOk result (λ reports. reports.more ≡ length (entries_in_text text.now) - 50) }
-    ensures places { IfOk result (λ reports. All (IsPlacedIn text.now) reports.listed.items) }
-    ensures other { ¬ IsUtf8 text.now → IfOk result (λ reports. (reports.listed.items ≡ []) × (reports.more ≡ 0)) }
-{
-    match std::str::from_utf8(text) {
-        Ok(text) => reports_of_text(alloc, text),
-        Err(_) => Ok(no_reports(alloc)),
-    }
-}
-
-/// Returns the empty list.
-fn no_reports(alloc: Global) -> FaultReports
-    ensures listed { result.listed.items ≡ [] }
-    ensures more { result.more ≡ 0 }
-{
-    FaultReports {
-        listed: Vec::new(alloc),
-        more: 0,
-    }
-}
-
-/// Returns the faults of a text.
-fn reports_of_text(alloc: Global, text: &str) -> Result<FaultReports, AllocError>
-    ensures first { IfOk result (λ reports. map entry_told reports.listed.items ≡ take 50 (entries_in_text text.now)) }
+pub fn fault_reports<'t>(
+    alloc: Global,
+    text: &'t ConfigText<'_>,
+) -> Result<Listed<FaultReport<'t>>, AllocError>
+    ensures first { IfOk result (λ reports. map entry_told reports.first.items ≡ take 50 (entries_in_text text.now)) }
     ensures more { IfOk result (λ reports. reports.more ≡ length (entries_in_text text.now) - 50) }
-    ensures places { IfOk result (λ reports. All (IsPlacedIn text.now) reports.listed.items) }
+    ensures places { IfOk result (λ reports. All (IsPlacedIn text.now) reports.first.items) }
 {
-    match toml::table_from_str(alloc, text) {
-        Ok(document) => {
-            let faults = list_faults(alloc, &document)?;
-            report_first(alloc, text, &document, faults.as_slice())
-        }
-        Err(fault) => {
-            if fault.is_memory() {
-                return Err(AllocError);
-            }
-            Ok(no_reports(alloc))
-        }
-    }
+    let document = text.document();
+    let faults = list_faults(alloc, document)?;
+    report_first(alloc, text.as_str(), document, faults.as_slice())
 }
 
-/// Reports the first of these faults.
-fn report_first(
+fn report_first<'t>(
     alloc: Global,
     text: &str,
-    document: &Table,
+    document: &'t Table,
     faults: &[ConfigFault],
-) -> Result<FaultReports, AllocError>
-    ensures first { IfOk result (λ reports. map entry_told reports.listed.items ≡ take 50 (map (entry_of (table_view document.now)) faults.now)) }
+) -> Result<Listed<FaultReport<'t>>, AllocError>
+    ensures first { IfOk result (λ reports. map entry_told reports.first.items ≡ take 50 (map (entry_of (table_view document.now)) faults.now)) }
     ensures more { IfOk result (λ reports. reports.more ≡ length (map (entry_of (table_view document.now)) faults.now) - 50) }
-    ensures places { IfOk result (λ reports. All (IsPlacedIn text.now) reports.listed.items) }
+    ensures places { IfOk result (λ reports. All (IsPlacedIn text.now) reports.first.items) }
 {
-    let count = faults.len().min(MOST_LISTED);
-    let mut listed = Vec::new(alloc);
-    for fault in &faults[..count] {
-        let report = report_of(alloc, text, document, *fault)?;
-        listed.push(report)?;
-    }
-    let more = faults.len() - count;
-    Ok(FaultReports { listed, more })
+    list_first(alloc, faults, MOST_LISTED, |fault| {
+        report_of(alloc, text, document, fault)
+    })
 }
 
-/// Reports a fault.
-fn report_of(
+fn report_of<'t>(
     alloc: Global,
     text: &str,
-    document: &Table,
+    document: &'t Table,
     fault: ConfigFault,
-) -> Result<FaultReport, AllocError>
+) -> Result<FaultReport<'t>, AllocError>
     ensures entry { IfOk result (λ report. entry_told report ≡ entry_of (table_view document.now) fault) }
     ensures placed { IfOk result (λ report. IsPlacedIn text.now report) }
 {
     let place = find_place(alloc, text, fault)?;
-    let value = show_value(alloc, document, fault)?;
+    let value = show_value(document, fault);
     let hint = hint_of(fault, text_at(document, fault));
     let first = find_first(alloc, text, document, fault)?;
     Ok(FaultReport {
@@ -240,7 +160,6 @@ fn report_of(
     })
 }
 
-/// Returns the key of a fault, if it has one.
 fn spot_of(fault: ConfigFault) -> Option<Spot>
     ensures { result ≡ spot_in fault }
 {
@@ -256,7 +175,6 @@ fn spot_of(fault: ConfigFault) -> Option<Spot>
     }
 }
 
-/// Returns the value at a key.
 fn find_value(document: &Table, spot: Spot) -> Option<&Value>
     ensures { option_map (λ v. view v.now) result ≡ data_at spot (table_view document.now) }
 {
@@ -268,7 +186,6 @@ fn find_value(document: &Table, spot: Spot) -> Option<&Value>
     value_of(table, spot.key.name())
 }
 
-/// Returns the text at the key of a fault, if it is one.
 fn text_at(document: &Table, fault: ConfigFault) -> Option<&str>
     ensures { option_map (λ s. s.now) result ≡ told_text fault (table_view document.now) }
 {
@@ -276,44 +193,41 @@ fn text_at(document: &Table, fault: ConfigFault) -> Option<&str>
     value.as_str()
 }
 
-/// Returns what is told of the value at the key of a fault.
-fn show_value(alloc: Global, document: &Table, fault: ConfigFault) -> Result<Shown, AllocError>
-    ensures { IfOk result (λ shown. shown_text shown ≡ value_text fault (table_view document.now)) }
+fn show_value(document: &Table, fault: ConfigFault) -> Shown<'_>
+    ensures { shown_text result ≡ value_text fault (table_view document.now) }
 {
     let Some(spot) = spot_of(fault) else {
-        return Ok(Shown::Nothing);
+        return Shown::Nothing;
     };
     if spot.key == Key::Secret {
-        return Ok(Shown::Nothing);
+        return Shown::Nothing;
     }
     match find_value(document, spot) {
-        Some(value) => show(alloc, value),
-        None => Ok(Shown::Nothing),
+        Some(value) => show(value),
+        None => Shown::Nothing,
     }
 }
 
-/// Returns what is told of a value.
-fn show(alloc: Global, value: &Value) -> Result<Shown, AllocError>
-    ensures { IfOk result (λ shown. shown_text shown ≡ data_text (Some (view value.now))) }
+fn show(value: &Value) -> Shown<'_>
+    ensures { shown_text result ≡ data_text (Some (view value.now)) }
 {
     if let Some(text) = value.as_str() {
-        return show_text(alloc, text);
+        return show_text(text);
     }
     match value.as_integer() {
-        Some(number) if number >= 0 => Ok(Shown::Number(number)),
-        _ => Ok(Shown::Nothing),
+        Some(number) if number >= 0 => Shown::Number(number),
+        _ => Shown::Nothing,
     }
 }
 
-/// Returns what is told of a text.
-fn show_text(alloc: Global, text: &str) -> Result<Shown, AllocError>
-    ensures { IfOk result (λ shown. shown_text shown ≡ (if is_told text.now then codes ": " ++ name_text text.now else [])) }
+fn show_text(text: &str) -> Shown<'_>
+    ensures { shown_text result ≡ (if is_told text.now then codes ": " ++ name_text text.now else []) }
 {
-    if !may_tell(text.as_bytes()) {
-        return Ok(Shown::Nothing);
+    if may_tell(text.as_bytes()) {
+        Shown::Text(text)
+    } else {
+        Shown::Nothing
     }
-    let text = String::from_str(alloc, text)?;
-    Ok(Shown::Text(text))
 }
 
 /// For the proof: whether a text has digits, `.`, `:` and `/` alone.
@@ -342,33 +256,14 @@ fn place_missing(alloc: Global, text: &str, spot: Spot) -> Result<Option<Place>,
 {
     match spot.part {
         Part::Top => place_key(alloc, text, spot),
-        _ => place_table(alloc, text, spot.part, spot.index),
+        _ => find_table(alloc, text, spot.part, spot.index),
     }
 }
 
-/// Returns the place of the header of a table.
-fn place_table(
-    alloc: Global,
-    text: &str,
-    part: Part,
-    index: usize,
-) -> Result<Option<Place>, AllocError>
-    ensures { IfOk result (λ found. IfSome found (BeginsAtPlace text.now (part_name part))) }
-{
-    match find_table(alloc, text, part, index)? {
-        Some(offset) => Ok(Some(place_of(text.as_bytes(), offset))),
-        None => Ok(None),
-    }
-}
-
-/// Returns the place of a key.
 fn place_key(alloc: Global, text: &str, spot: Spot) -> Result<Option<Place>, AllocError>
     ensures { IfOk result (λ found. IfSome found (BeginsAtPlace text.now (key_name spot.key))) }
 {
-    match find_key(alloc, text, spot.part, spot.index, spot.key.name())? {
-        Some(offset) => Ok(Some(place_of(text.as_bytes(), offset))),
-        None => Ok(None),
-    }
+    find_key(alloc, text, spot.part, spot.index, spot.key.name())
 }
 
 /// Returns the place of the first key with the same value, if the fault is that two tables have it.

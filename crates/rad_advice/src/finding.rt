@@ -6,8 +6,9 @@
 ghost use Rattle.std.specs.Prelude.{◌≡◌, ◌≤◌, Some, length, option_copied, option_map, IfOk, IfSome, IsTrue, string_bytes};
 ghost use Rattle.std.specs.List.{slice_get};
 ghost use Rattle.rad_realms.specs.Spot.{part_name};
-ghost use Rattle.rad_advice.specs.Keys.{BeginsAt};
+ghost use Rattle.rad_advice.specs.Keys.{BeginsAt, BeginsAtPlace};
 
+use crate::place::{Place, place_of};
 use crate::tokens::{Token, next_token, read_key, skip_expression, skip_part};
 use rad_realms::Part;
 use std::alloc::{AllocError, Global};
@@ -46,16 +47,16 @@ struct Passed {
     tables: usize,
 }
 
-/// Returns the offset in octets at which a key begins for the first time in the table of this part and index, or
-/// `None` if it was not found.
+/// Returns the place at which a key begins for the first time in the table of this part and index, or `None` if it was
+/// not found.
 pub(crate) fn find_key(
     alloc: Global,
     text: &str,
     part: Part,
     index: usize,
     name: &str,
-) -> Result<Option<usize>, AllocError>
-    ensures { IfOk result (λ found. IfSome found (λ offset. (offset ≤ length text.now) × BeginsAt name.now offset text.now)) }
+) -> Result<Option<Place>, AllocError>
+    ensures { IfOk result (λ found. IfSome found (BeginsAtPlace text.now name.now)) }
 {
     let wanted = Wanted {
         part,
@@ -66,15 +67,15 @@ pub(crate) fn find_key(
     find(alloc, text, wanted)
 }
 
-/// Returns the offset in octets at which the header of the table of this part and index has the name of its array. If
-/// the array is written as one value, it is the offset of the array's key. It is `None` if neither was found.
+/// Returns the place at which the header of the table of this part and index has the name of its array. If the array is
+/// written as one value, it is the place of the array's key. It is `None` if neither was found.
 pub(crate) fn find_table(
     alloc: Global,
     text: &str,
     part: Part,
     index: usize,
-) -> Result<Option<usize>, AllocError>
-    ensures { IfOk result (λ found. IfSome found (λ offset. (offset ≤ length text.now) × BeginsAt (part_name part) offset text.now)) }
+) -> Result<Option<Place>, AllocError>
+    ensures { IfOk result (λ found. IfSome found (BeginsAtPlace text.now (part_name part))) }
 {
     let wanted = Wanted {
         part,
@@ -85,9 +86,8 @@ pub(crate) fn find_table(
     find(alloc, text, wanted)
 }
 
-/// Searches a text until the key is found.
-fn find(alloc: Global, text: &str, wanted: Wanted<'_>) -> Result<Option<usize>, AllocError>
-    ensures { IfOk result (λ found. IfSome found (λ offset. (offset ≤ length text.now) × BeginsAt wanted.entry.name.now offset text.now)) }
+fn find(alloc: Global, text: &str, wanted: Wanted<'_>) -> Result<Option<Place>, AllocError>
+    ensures { IfOk result (λ found. IfSome found (BeginsAtPlace text.now wanted.entry.name.now)) }
 {
     let mut passed = Passed {
         section: Section::Top,
@@ -96,8 +96,8 @@ fn find(alloc: Global, text: &str, wanted: Wanted<'_>) -> Result<Option<usize>, 
     let mut rest = skip_mark(text);
     for _ in 0..text.len() {
         let start = skip_blank(rest, true);
-        if let Some(offset) = find_offset(alloc, text, wanted, &mut passed, start)? {
-            return Ok(Some(offset));
+        if let Some(place) = find_place(alloc, text, wanted, &mut passed, start)? {
+            return Ok(Some(place));
         }
         match skip_expression(alloc, start)? {
             Some(after) => rest = after,
@@ -107,23 +107,23 @@ fn find(alloc: Global, text: &str, wanted: Wanted<'_>) -> Result<Option<usize>, 
     Ok(None)
 }
 
-/// Returns the offset of the key in a text, if the key is in the header or pair at the front of `start`, which is the
-/// rest of the text.
-fn find_offset(
+/// Returns the place of the key in a text, if the key is in the header or pair at the front of `start`, which is the rest
+/// of the text.
+fn find_place(
     alloc: Global,
     text: &str,
     wanted: Wanted<'_>,
     passed: &mut Passed,
     start: &str,
-) -> Result<Option<usize>, AllocError>
-    ensures { IfOk result (λ found. IfSome found (λ offset. (offset ≤ length text.now) × BeginsAt wanted.entry.name.now offset text.now)) }
+) -> Result<Option<Place>, AllocError>
+    ensures { IfOk result (λ found. IfSome found (BeginsAtPlace text.now wanted.entry.name.now)) }
 {
     let Some(found) = find_in_expression(alloc, wanted, passed, start)? else {
         return Ok(None);
     };
     let offset = text.len().saturating_sub(found.len());
     if stands_at(alloc, text, offset, wanted.name)? {
-        Ok(Some(offset))
+        Ok(Some(place_of(text.as_bytes(), offset)))
     } else {
         Ok(None)
     }
@@ -137,7 +137,6 @@ fn skip_mark(text: &str) -> &str {
     }
 }
 
-/// Whether a key whose first part has this name begins at an offset of a text.
 fn stands_at(alloc: Global, text: &str, offset: usize, name: &str) -> Result<bool, AllocError>
     ensures { IfOk result (λ stands. IsTrue stands → (offset ≤ length text.now) × BeginsAt name.now offset text.now) }
 {
@@ -147,7 +146,6 @@ fn stands_at(alloc: Global, text: &str, offset: usize, name: &str) -> Result<boo
     begins_with(alloc, rest, name)
 }
 
-/// Whether the part of a key at this index has this name.
 fn is_part(parts: &[String], place: usize, name: &str) -> bool
     ensures { IsTrue result → option_map string_bytes (slice_get parts.now place) ≡ Some name.now }
 {
@@ -186,19 +184,19 @@ fn find_in_header<'t>(
 ) -> Result<Option<&'t str>, AllocError> {
     passed.section = Section::Other;
     let place = match read_key(alloc, key)? {
-        Some((parts, _)) => place_in_header(wanted, passed, double, parts.as_slice()),
+        Some((parts, _)) => part_in_header(wanted, passed, double, parts.as_slice()),
         None => None,
     };
     match place {
-        Some(Place::First) => Ok(Some(key)),
-        Some(Place::Second) => skip_part(alloc, key),
+        Some(HeaderPart::First) => Ok(Some(key)),
+        Some(HeaderPart::Second) => skip_part(alloc, key),
         None => Ok(None),
     }
 }
 
 /// Where the key of a header has the key that is looked for.
 #[derive(Clone, Copy)]
-enum Place {
+enum HeaderPart {
     /// At its first part.
     First,
     /// At its second part, after the name of the array.
@@ -206,14 +204,14 @@ enum Place {
 }
 
 /// Passes a header whose key has these parts, and returns where it has the key that is looked for, if it has it.
-fn place_in_header(
+fn part_in_header(
     wanted: Wanted<'_>,
     passed: &mut Passed,
     double: bool,
     parts: &[String],
-) -> Option<Place> {
+) -> Option<HeaderPart> {
     if wanted.part == Part::Top {
-        return is_part(parts, 0, wanted.name).then_some(Place::First);
+        return is_part(parts, 0, wanted.name).then_some(HeaderPart::First);
     }
     if !is_part(parts, 0, wanted.part.name()) {
         return None;
@@ -222,18 +220,17 @@ fn place_in_header(
         let found = !wanted.is_table
             && passed.is_at(wanted.index)
             && is_part(parts, 1, wanted.name);
-        return found.then_some(Place::Second);
+        return found.then_some(HeaderPart::Second);
     }
     if !double {
         return None;
     }
     passed.begin();
     let found = wanted.is_table && passed.is_at(wanted.index);
-    found.then_some(Place::First)
+    found.then_some(HeaderPart::First)
 }
 
 impl Passed {
-    /// Records that a table of the array begins.
     fn begin(&mut self) {
         self.section = Section::Array;
         self.tables = self.tables.saturating_add(1);
@@ -343,7 +340,6 @@ fn find_in_array<'t>(
     Ok(None)
 }
 
-/// Whether a text begins with a key whose first part is this name.
 fn begins_with(alloc: Global, text: &str, name: &str) -> Result<bool, AllocError>
     ensures { IfOk result (λ begins. IsTrue begins → BeginsAt name.now 0 text.now) }
 {

@@ -25,7 +25,6 @@ pub(crate) fn hint_of(fault: ConfigFault, text: Option<&str>) -> &'static str
     }
 }
 
-/// Returns the hint for a key that is absent.
 fn missing_hint(part: Part, key: Key) -> &'static str
     ensures { result.now ≡ hint_for_missing part key }
 {
@@ -39,7 +38,6 @@ fn missing_hint(part: Part, key: Key) -> &'static str
     }
 }
 
-/// Returns the hint for a value of another type.
 fn type_hint(part: Part, key: Key) -> &'static str
     ensures { result.now ≡ hint_for_type part key }
 {
@@ -53,7 +51,6 @@ fn type_hint(part: Part, key: Key) -> &'static str
     }
 }
 
-/// Returns the hint for a value that is out of its range, or has a wrong form.
 fn range_hint(part: Part, key: Key) -> &'static str
     ensures { result.now ≡ hint_for_range part key }
 {
@@ -75,7 +72,6 @@ fn range_hint(part: Part, key: Key) -> &'static str
     }
 }
 
-/// Returns the hint for too many tables.
 fn most_hint(key: Key) -> &'static str
     ensures { result.now ≡ hint_for_most key }
 {
@@ -85,7 +81,6 @@ fn most_hint(key: Key) -> &'static str
     }
 }
 
-/// Returns the hint for a text that is no address.
 fn address_hint(part: Part, text: Option<&str>) -> &'static str
     ensures { result.now ≡ hint_of_text part (option_map (λ s. s.now) text.entry) }
 {
@@ -96,7 +91,6 @@ fn address_hint(part: Part, text: Option<&str>) -> &'static str
     }
 }
 
-/// Returns the hint for a text that is no address of a client.
 fn client_hint(text: &[u8]) -> &'static str
     ensures { result.now ≡ hint_for_client text.now }
 {
@@ -113,7 +107,6 @@ fn client_hint(text: &[u8]) -> &'static str
     }
 }
 
-/// Returns the hint for a text that is no address and port.
 fn server_hint(text: &[u8]) -> &'static str
     ensures { result.now ≡ hint_for_server text.now }
 {
@@ -130,7 +123,6 @@ fn server_hint(text: &[u8]) -> &'static str
     }
 }
 
-/// Whether a text has two colons or more.
 fn has_colons(text: &[u8]) -> bool
     ensures { result ≡ contains_colons text.now }
 {

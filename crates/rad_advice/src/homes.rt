@@ -128,14 +128,12 @@ fn is_served(listen: Endpoint, local: &[[u8; 4]], to: Endpoint) -> bool
     listen.address == to.address || (listen.address == [0, 0, 0, 0] && is_local(local, to.address))
 }
 
-/// Whether this machine has an address: one of 127.0.0.0/8, or one of `local`.
 fn is_local(local: &[[u8; 4]], address: [u8; 4]) -> bool
     ensures { result ≡ belongs_here local.now address }
 {
     address[0] == 127 || has_address(local, address)
 }
 
-/// Returns the fault of an address, whatever the port.
 fn address_fault(address: [u8; 4]) -> Option<AddressFault>
     ensures { result ≡ fault_at address }
 {

@@ -40,7 +40,6 @@ pub(crate) fn names_of(part: Part) -> &'static [&'static str]
     }
 }
 
-/// Whether a key of this name is read in the tables of a part.
 pub(crate) fn is_read(part: Part, name: &str) -> bool
     ensures { result ≡ is_one_of (read_names part) name.now }
 {

@@ -59,14 +59,12 @@ pub fn place_of(text: &[u8], offset: usize) -> Place
     Place { line, column }
 }
 
-/// Returns the line of the octet after these octets.
 fn line_of(before: &[u8]) -> usize
     ensures { result ≡ line_after before.now }
 {
     count_line_feeds(before) + 1
 }
 
-/// Returns the number of line feeds among these octets.
 fn count_line_feeds(octets: &[u8]) -> usize
     ensures number { result ≡ count_by is_line_feed octets.now }
     ensures most { result ≤ length octets.now }
@@ -80,7 +78,6 @@ fn count_line_feeds(octets: &[u8]) -> usize
     count
 }
 
-/// Returns the column of the octet after these octets.
 fn column_of(before: &[u8]) -> usize
     ensures { result ≡ column_after before.now }
 {
@@ -91,7 +88,6 @@ fn column_of(before: &[u8]) -> usize
     count_characters(line) + 1
 }
 
-/// Returns the number of characters that begin in these octets.
 fn count_characters(octets: &[u8]) -> usize
     ensures number { result ≡ count_by begins_character octets.now }
     ensures most { result ≤ length octets.now }

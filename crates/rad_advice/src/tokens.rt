@@ -72,7 +72,6 @@ fn skip_bare(text: &str) -> &str {
     rest
 }
 
-/// Steps over a string.
 fn skip_string(alloc: Global, text: &str) -> Result<Option<&str>, AllocError>
     requires { begins_string text.now ≡ true }
 {
@@ -98,7 +97,6 @@ pub(crate) fn next_token(alloc: Global, text: &str) -> Result<Option<(Token, &st
     Ok(Some((token_of(octet), skip(text, 1))))
 }
 
-/// Returns the token of an octet.
 fn token_of(octet: u8) -> Token {
     match octet {
         b'[' | b'{' => Token::Open,

@@ -7,8 +7,10 @@ use Rattle.std.proofs.lemmas.Str.{encode_ascii}
 use Rattle.std.specs.Char.{encode_utf8, is_control}
 use Rattle.std.specs.List.{flat_map, list_all, list_any}
 use Rattle.rad_log.specs.Escaped.{escaped, is_plain as is_plain_in_log}
-use Rattle.rad_audit.specs.Cells.{is_escaped, is_plain}
-use Rattle.rad_audit.specs.Shown.{format_runs, is_format, octet_text}
+use Rattle.rad_audit.specs.Cells.{is_plain}
+use Rattle.rad_audit.specs.Shown.{format_runs, is_escaped, is_format, octet_text}
+use Rattle.rad_audit.specs.declared.shown.Within.{Within}
+use Rattle.rad_audit.specs.declared.shown.Within.TheVariants.{Line, Row}
 
 no_plain : (o : ℕ) → is_plain o ≡ false → is_plain_in_log (Some 92) o ≡ false
 no_plain o e = grind arith
@@ -45,9 +47,13 @@ no_plain_of : (c : ℕ) (f : Bool) → f ≡ false → c < 128 → ((is_control 
 no_plain_of c true none l e = absurd cc
 no_plain_of c false none l e = grind arith
 
-pub character_is : (c : ℕ) → is_escaped c ≡ true → escaped (Some 92) (encode_utf8 c) ≡ flat_map octet_text (encode_utf8 c)
-character_is c e = elim (cases_lt c 128) [
+in_row : (within : Within) (c : ℕ) → is_escaped within c ≡ true → is_escaped Row c ≡ true
+in_row Line c e = rw e refl
+in_row Row c e = e
+
+pub character_is : (within : Within) (c : ℕ) → is_escaped within c ≡ true → escaped (Some 92) (encode_utf8 c) ≡ flat_map octet_text (encode_utf8 c)
+character_is within c e = elim (cases_lt c 128) [
   | inl small ↦
-      rw (encode_ascii c small) (one c (no_plain_of c (is_format c) (no_format c small) small e))
+      rw (encode_ascii c small) (one c (no_plain_of c (is_format c) (no_format c small) small (in_row within c e)))
   | inr great ↦ wide c great
 ]

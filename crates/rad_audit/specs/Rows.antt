@@ -1,11 +1,12 @@
 -- The row of a record (own), without its line feed: words with a tab between.
-use Rattle.std.specs.Prelude.{ℕ, List, [], ◌∷◌, ◌++◌, codes, Some, None, option_copied}
+use Rattle.std.specs.Prelude.{ℕ, List, [], ◌∷◌, ◌++◌, codes, Option, Some, None, option_copied}
 use Rattle.std.specs.Fmt.{decimal}
 use Rattle.rad_packet.specs.Packet.{identifier_of}
 use Rattle.rad_config.specs.Realm.{realm_of_packet}
 use Rattle.rad_lane.specs.Session.{session_id}
 use Rattle.rad_ledger.specs.declared.entry.Entry.{Entry}
 use Rattle.rad_ledger.specs.declared.left.Left.{Left as TheLeft}
+use Rattle.rad_ledger.specs.declared.line_request.LineRequest.{LineRequest}
 use Rattle.ledger_lines.specs.Lines.{state_text}
 use Rattle.rad_audit.specs.Printed.{run_text}
 use Rattle.rad_audit.specs.Cells.{client_cell, value_cell, number_cell}
@@ -27,38 +28,33 @@ with_tabs (word ∷ next ∷ rest) = word ++ 9 ∷ with_tabs (next ∷ rest)
 abbrev pub place_words : Place → List (List ℕ)
 place_words place = value_cell (Some place.file.now) ∷ decimal place.line ∷ []
 
--- What the line of an entry says.
-abbrev pub name_of : Entry → List (List ℕ)
-name_of e =
-    run_text e.run ∷ decimal e.lane ∷ decimal e.serial ∷ decimal e.number ∷ value_cell (Some e.time.now)
-    ∷ client_cell e.client ∷ decimal e.port ∷ []
+-- What a line says of the request that it is about, and the serial of the response, if there is one.
+abbrev pub name_of : LineRequest → Option ℕ → List (List ℕ)
+name_of about serial =
+    run_text about.run ∷ decimal about.lane ∷ number_cell serial ∷ decimal about.number ∷ value_cell (Some about.time.now)
+    ∷ client_cell about.client ∷ decimal about.port ∷ []
 
 -- What the packets of an entry say: the Identifier of the request, which the response has, the home server under whose secret they are
 -- judged, the realm, the session, the user, the status, the octets received from the port and sent to it, and the seconds.
 abbrev pub facts_of : Entry → List (List ℕ)
 facts_of e =
-    decimal (identifier_of e.response.now) ∷ value_cell (Some e.home.now) ∷ value_cell (realm_of_packet e.sent.now)
+    decimal (identifier_of e.response.now) ∷ value_cell (Some e.about.home.now) ∷ value_cell (realm_of_packet e.sent.now)
     ∷ value_cell (session_id e.sent.now) ∷ value_cell (value_at 1 e.sent.now) ∷ number_cell (number_at 40 e.sent.now)
     ∷ number_cell (octets_at 52 42 e.sent.now) ∷ number_cell (octets_at 53 43 e.sent.now) ∷ number_cell (number_at 46 e.sent.now) ∷ []
 
 -- The words of an entry's row.
 abbrev pub row_of : Place → Entry → List (List ℕ)
-row_of place e = place_words place ++ name_of e ++ facts_of e ++ codes "answered" ∷ []
+row_of place e = place_words place ++ name_of e.about (Some e.serial) ++ facts_of e ++ codes "answered" ∷ []
 
 -- The same of a request that was left, which has no serial.
-abbrev pub name_of_left : TheLeft → List (List ℕ)
-name_of_left l =
-    run_text l.run ∷ decimal l.lane ∷ number_cell None ∷ decimal l.number ∷ value_cell (Some l.time.now)
-    ∷ client_cell l.client ∷ decimal l.port ∷ []
-
 abbrev pub facts_of_left : TheLeft → List (List ℕ)
 facts_of_left l =
-    decimal l.identifier ∷ value_cell (Some l.home.now) ∷ value_cell (realm_of_packet l.request.now)
+    decimal l.about.identifier ∷ value_cell (Some l.about.home.now) ∷ value_cell (realm_of_packet l.request.now)
     ∷ value_cell (session_id l.request.now) ∷ value_cell (value_at 1 l.request.now) ∷ number_cell (number_at 40 l.request.now)
     ∷ number_cell (octets_at 52 42 l.request.now) ∷ number_cell (octets_at 53 43 l.request.now) ∷ number_cell (number_at 46 l.request.now) ∷ []
 
 abbrev pub row_of_left : Place → TheLeft → List (List ℕ)
-row_of_left place l = place_words place ++ name_of_left l ++ facts_of_left l ++ state_text l.state ∷ []
+row_of_left place l = place_words place ++ name_of l.about None ++ facts_of_left l ++ state_text l.state ∷ []
 
 -- The words of a row, by its parts.
 abbrev pub name_words : RecordName → List (List ℕ)

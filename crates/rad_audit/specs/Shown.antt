@@ -1,8 +1,10 @@
 -- Words as they are printed (own).
-use Rattle.std.specs.Prelude.{ℕ, ◌/◌, ◌%◌, nat_le, Bool, false, ◌&&◌, ◌||◌, List, [], ◌∷◌, ◌++◌, chars, codes, if◌then◌else◌}
+use Rattle.std.specs.Prelude.{ℕ, ◌/◌, ◌%◌, nat_le, Bool, false, ◌&&◌, ◌||◌, ◌==◌, List, [], ◌∷◌, ◌++◌, chars, codes, if◌then◌else◌}
 use Rattle.std.specs.Char.{encode_utf8, is_control}
 use Rattle.std.specs.Fmt.{digits}
 use Rattle.std.specs.List.{flat_map, list_any}
+use Rattle.rad_audit.specs.declared.shown.Within.{Within}
+use Rattle.rad_audit.specs.declared.shown.Within.TheVariants.{Line, Row}
 
 -- An octet, as `%` and two hexadecimal digits.
 abbrev pub octet_text : ℕ → List ℕ
@@ -37,13 +39,18 @@ format_runs =
 abbrev pub is_format : ℕ → Bool
 is_format c = list_any (λ run. nat_le run.0 c && nat_le c run.1) format_runs
 
--- A character that is not printed as it is: one of these, or a control character.
+-- A character that is not seen: one of these, or a control character.
 abbrev pub is_hidden : ℕ → Bool
 is_hidden c = is_control c || is_format c
 
--- A character: its octets in UTF-8, each printed like this if it is hidden, and otherwise unchanged.
-abbrev pub character_text : ℕ → List ℕ
-character_text c = if is_hidden c then flat_map octet_text (encode_utf8 c) else encode_utf8 c
+-- A character that is printed by its octets: a hidden one, and in a row `%` or `\` too.
+abbrev pub is_escaped : Within → ℕ → Bool
+is_escaped Line c = is_hidden c
+is_escaped Row c = is_hidden c || (c == 37 || c == 92)
+
+-- A character: its octets in UTF-8, each printed like this if it is printed by them, and otherwise unchanged.
+abbrev pub character_text : Within → ℕ → List ℕ
+character_text within c = if is_escaped within c then flat_map octet_text (encode_utf8 c) else encode_utf8 c
 
 abbrev pub word_text : List ℕ → List ℕ
-word_text text = flat_map character_text (chars text)
+word_text text = flat_map (character_text Line) (chars text)

@@ -1,10 +1,12 @@
 -- How the program ends (own).
-use Rattle.std.specs.Prelude.{ℕ, Bool, true, false, not, ◌&&◌, ◌||◌, ◌==◌, if◌then◌else◌}
+use Rattle.std.specs.Prelude.{◌≡◌, ℕ, Bool, true, false, not, ◌&&◌, ◌||◌, ◌==◌, if◌then◌else◌}
 use Rattle.rad_ledger.specs.declared.tally.Verdict.{Verdict}
-use Rattle.rad_ledger.specs.declared.tally.Verdict.TheVariants.{Whole, Open, Missing, Unaccounted, Part, Contradicted}
+use Rattle.rad_ledger.specs.declared.tally.Verdict.TheVariants.{Open, Missing, Unaccounted, Contradicted}
 use Rattle.rad_audit.specs.declared.faults.Fault.{Fault}
 use Rattle.rad_audit.specs.declared.faults.Fault.TheVariants.{Usage, File, Configuration, Memory, Output}
 use Rattle.rad_audit.specs.declared.printing.Asked.{Asked}
+use Rattle.rad_audit.specs.declared.printing.Finding.{Finding}
+use Rattle.rad_audit.specs.declared.printing.Finding.TheVariants as finding
 use Rattle.rad_audit.specs.declared.printing.Findings.{Findings}
 use Rattle.rad_audit.specs.declared.printing.LaneCounts.{LaneCounts}
 
@@ -22,30 +24,23 @@ status_at f =
     if f.wrong then 5 else (if f.contradicted then 9 else (if f.file then 8 else (if f.gap then 3
     else (if f.part then 7 else (if f.nothing || f.run then 10 else (if f.unended then 6 else 0))))))
 
+-- A status of such an audit.
+abbrev pub IsStatus : ℕ → Type 0
+IsStatus status = (found : Findings) × (status ≡ status_at found)
+
 -- Whether a response or a request is missing.
 abbrev pub is_missing : Verdict → Bool
-is_missing Whole = false
-is_missing Open = false
 is_missing (Missing gap) = true
 is_missing Unaccounted = true
-is_missing Part = false
-is_missing Contradicted = false
+is_missing _ = false
 
 abbrev pub is_open : Verdict → Bool
-is_open Whole = false
 is_open Open = true
-is_open (Missing gap) = false
-is_open Unaccounted = false
-is_open Part = false
-is_open Contradicted = false
+is_open _ = false
 
 abbrev pub is_contradicted : Verdict → Bool
-is_contradicted Whole = false
-is_contradicted Open = false
-is_contradicted (Missing gap) = false
-is_contradicted Unaccounted = false
-is_contradicted Part = false
 is_contradicted Contradicted = true
+is_contradicted _ = false
 
 -- Whether a lane is a part that nobody asked for: its run begins before it, or has no sum, or some of its lines were not judged.
 abbrev pub is_unasked : Asked → LaneCounts → Bool
@@ -55,13 +50,24 @@ is_unasked asked counts =
 -- What is found with one lane more.
 abbrev pub found_in : Asked → LaneCounts → Findings → Findings
 found_in asked counts f =
-    record {
-      wrong = f.wrong;
+    record f {
       contradicted = f.contradicted || is_contradicted counts.verdict;
-      file = f.file;
       gap = f.gap || is_missing counts.verdict;
       part = f.part || is_unasked asked counts;
       nothing = false;
-      run = f.run;
       unended = f.unended || is_open counts.verdict;
     }
+
+-- What is found with one finding more. What is torn, or back in time, is no fault.
+abbrev pub found_with : Asked → Finding → Findings → Findings
+found_with asked (finding.Wrong place reason) f = record f { wrong = true }
+found_with asked (finding.Torn place) f = f
+found_with asked (finding.Gap place name gap) f = record f { gap = true }
+found_with asked (finding.Files place run files) f = record f { file = true }
+found_with asked (finding.Lane counts) f = found_in asked counts f
+found_with asked (finding.Fates name fates) f = f
+found_with asked (finding.Ranges name) f = f
+found_with asked (finding.Back name steps) f = f
+found_with asked (finding.Hidden run count) f = record f { part = f.part || not asked.partial }
+found_with asked (finding.Before run file) f = record f { run = f.run || asked.all }
+found_with asked (finding.Sum word) f = record f { wrong = true }

@@ -9,6 +9,7 @@ use Rattle.rad_ledger.specs.Numbers.{IsAsBefore, IsKnown, Keeps}
 use Rattle.rad_ledger.specs.declared.account.Account.{Account}
 use Rattle.rad_ledger.specs.declared.entry.Entry.{Entry}
 use Rattle.rad_ledger.specs.declared.left.Left.{Left}
+use Rattle.rad_ledger.specs.declared.line_request.LineRequest.{LineRequest}
 use Rattle.rad_ledger.specs.declared.reason.Reason.{Reason}
 use Rattle.rad_ledger.specs.declared.reason.Reason.TheVariants.{NotEntry, NoPacket, WrongSent, WrongReply, WrongResponse, SerialNotAbove, UnknownLane, RecordTwice, WrongWords, WrongSum}
 use Rattle.rad_ledger.specs.declared.tally.Gap.{Gap}
@@ -37,36 +38,33 @@ pub record HasItsWords (packet : List ℕ) (words : LineWords) : Type 0 where
   pub user : option_copied words.user ≡ value_at 1 packet
   pub status : words.status ≡ number_at 40 packet
 
-abbrev pub words_of : Entry → LineWords
-words_of e = record { realm = e.realm; session = e.session; user = e.user; status = e.status }
-
-abbrev pub words_of_left : Left → LineWords
-words_of_left l = record { realm = l.realm; session = l.session; user = l.user; status = l.status }
+abbrev pub words_of : LineRequest → LineWords
+words_of about = record { realm = about.realm; session = about.session; user = about.user; status = about.status }
 
 -- Nothing is wrong with it, and it is one more of the lane's entries, behind this gap if there is one.
 pub record IsCounted (e : Entry) (home client : Option (List ℕ)) (old : Tally) (was : Account) (gap : Option Gap) (new : Tally) (is : Account) : Type 0 where
   pub right : ArePacketsRight e home client
-  pub words : HasItsWords e.sent.now (words_of e)
+  pub words : HasItsWords e.sent.now (words_of e.about)
   pub in_place : old.next ≤ e.serial
   pub leaves : LeavesGap old.next e.serial gap
   pub counts : (serials : List ℕ) → Counts old serials → Counts new (serials ++ e.serial ∷ [])
   pub first : new.first ≡ old.first
   pub end : new.end ≡ old.end
-  pub number : CountsNumber was is e.number
+  pub number : CountsNumber was is e.about.number
   pub left : is.left ≡ was.left
 
 -- What is wrong with it: its words last.
 abbrev pub IsWrongEntry : Entry → Option (List ℕ) → Option (List ℕ) → Tally → Account → Reason → Type 0
 IsWrongEntry e home client old was NotEntry = ⊥
-IsWrongEntry e home client old was NoPacket = IsWrong e home client (Some old.next) (IsKnown was.numbers e.number) NoPacket
-IsWrongEntry e home client old was WrongSent = IsWrong e home client (Some old.next) (IsKnown was.numbers e.number) WrongSent
-IsWrongEntry e home client old was WrongReply = IsWrong e home client (Some old.next) (IsKnown was.numbers e.number) WrongReply
-IsWrongEntry e home client old was WrongResponse = IsWrong e home client (Some old.next) (IsKnown was.numbers e.number) WrongResponse
-IsWrongEntry e home client old was SerialNotAbove = IsWrong e home client (Some old.next) (IsKnown was.numbers e.number) SerialNotAbove
+IsWrongEntry e home client old was NoPacket = IsWrong e home client (Some old.next) (IsKnown was.numbers e.about.number) NoPacket
+IsWrongEntry e home client old was WrongSent = IsWrong e home client (Some old.next) (IsKnown was.numbers e.about.number) WrongSent
+IsWrongEntry e home client old was WrongReply = IsWrong e home client (Some old.next) (IsKnown was.numbers e.about.number) WrongReply
+IsWrongEntry e home client old was WrongResponse = IsWrong e home client (Some old.next) (IsKnown was.numbers e.about.number) WrongResponse
+IsWrongEntry e home client old was SerialNotAbove = IsWrong e home client (Some old.next) (IsKnown was.numbers e.about.number) SerialNotAbove
 IsWrongEntry e home client old was UnknownLane = ⊥
-IsWrongEntry e home client old was RecordTwice = IsWrong e home client (Some old.next) (IsKnown was.numbers e.number) RecordTwice
+IsWrongEntry e home client old was RecordTwice = IsWrong e home client (Some old.next) (IsKnown was.numbers e.about.number) RecordTwice
 IsWrongEntry e home client old was WrongWords =
-    ArePacketsRight e home client × IsInPlace e.serial (Some old.next) × (¬ IsKnown was.numbers e.number) × ¬ HasItsWords e.sent.now (words_of e)
+    ArePacketsRight e home client × IsInPlace e.serial (Some old.next) × (¬ IsKnown was.numbers e.about.number) × ¬ HasItsWords e.sent.now (words_of e.about)
 IsWrongEntry e home client old was WrongSum = ⊥
 
 abbrev pub Takes : Entry → Option (List ℕ) → Option (List ℕ) → Tally → Account → Taken → Tally → Account → Type 0
@@ -75,22 +73,22 @@ Takes e home client old was (Counted gap) new is = IsCounted e home client old w
 
 -- Nothing is wrong with it, and it is one more of the lane's requests that were left.
 pub record IsCountedLeft (left : Left) (client : Option (List ℕ)) (was is : Account) : Type 0 where
-  pub right : IsRightlyLeft left client ⊤ (IsKnown was.numbers left.number)
-  pub words : HasItsWords left.request.now (words_of_left left)
-  pub number : CountsNumber was is left.number
+  pub right : IsRightlyLeft left client ⊤ (IsKnown was.numbers left.about.number)
+  pub words : HasItsWords left.request.now (words_of left.about)
+  pub number : CountsNumber was is left.about.number
   pub more : is.left ≡ min (was.left + 1) (2 ^ 64 - 1)
 
 -- What is wrong with it: its words last.
 abbrev pub IsWrongLeft : Left → Option (List ℕ) → Account → Reason → Type 0
 IsWrongLeft left client was NotEntry = ⊥
-IsWrongLeft left client was NoPacket = IsWronglyLeft left client ⊤ (IsKnown was.numbers left.number) NoPacket
-IsWrongLeft left client was WrongSent = IsWronglyLeft left client ⊤ (IsKnown was.numbers left.number) WrongSent
+IsWrongLeft left client was NoPacket = IsWronglyLeft left client ⊤ (IsKnown was.numbers left.about.number) NoPacket
+IsWrongLeft left client was WrongSent = IsWronglyLeft left client ⊤ (IsKnown was.numbers left.about.number) WrongSent
 IsWrongLeft left client was WrongReply = ⊥
 IsWrongLeft left client was WrongResponse = ⊥
 IsWrongLeft left client was SerialNotAbove = ⊥
 IsWrongLeft left client was UnknownLane = ⊥
-IsWrongLeft left client was RecordTwice = IsWronglyLeft left client ⊤ (IsKnown was.numbers left.number) RecordTwice
-IsWrongLeft left client was WrongWords = IsRightlyLeft left client ⊤ (IsKnown was.numbers left.number) × ¬ HasItsWords left.request.now (words_of_left left)
+IsWrongLeft left client was RecordTwice = IsWronglyLeft left client ⊤ (IsKnown was.numbers left.about.number) RecordTwice
+IsWrongLeft left client was WrongWords = IsRightlyLeft left client ⊤ (IsKnown was.numbers left.about.number) × ¬ HasItsWords left.request.now (words_of left.about)
 IsWrongLeft left client was WrongSum = ⊥
 
 abbrev pub Leaves : Left → Option (List ℕ) → Account → Option Reason → Account → Type 0

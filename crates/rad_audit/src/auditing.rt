@@ -4,17 +4,14 @@ ghost use Rattle.std.specs.Prelude.{◌≡◌, ◌↔◌, ◌<◌, ◌^◌, IfEr
 ghost use Rattle.std.specs.Str.{bytes_eq};
 ghost use Rattle.rad_realms.specs.Realm.{client_of};
 ghost use Rattle.rad_audit.specs.Lines.{IsFront};
-ghost use Rattle.rad_audit.specs.Statuses.{status_at};
+ghost use Rattle.rad_audit.specs.Statuses.{IsStatus};
 ghost use Rattle.rad_audit.specs.declared.faults.Fault.TheVariants.{Output};
-ghost use Rattle.rad_audit.specs.declared.printing.Findings.{Findings as TheFindings};
 
 use crate::faults::Fault;
 use crate::kept_sums::KeptSums;
 use crate::line_room::{LineRoom, Piece};
 use crate::printing::{
-    Asked, BackLine, BeforeLine, FatesLine, FilesLine, Findings, GapLine, HiddenLine, LaneLine,
-    LaneName, MissingFiles, NO_FINDINGS, Outputs, Place, RangesLine, Report, SumLine, TornLine,
-    WrongLine,
+    Asked, Finding, Findings, LaneCounts, LaneName, NO_FINDINGS, Outputs, Place, Report,
 };
 use crate::read_file::FileSoFar;
 use crate::runs::{Lane, Run, Runs};
@@ -54,7 +51,7 @@ pub fn audit_files<R: Runtime, W: Write>(
 ) -> Result<u8, Fault>
 where
     R::File: Drop,
-    ensures { IfOk result (λ status. (found : TheFindings) × (status ≡ status_at found)) }
+    ensures { IfOk result IsStatus }
 {
     let report = Report {
         outputs,
@@ -64,10 +61,7 @@ where
             ..NO_FINDINGS
         },
     };
-    let Ok(mut audit) = Audit::new(alloc, config, sums, report) else {
-        return Err(Fault::Memory);
-    };
-    audit.read_files(rt, files)
+    Audit::new(alloc, config, sums, report)?.read_files(rt, files)
 }
 
 /// A line that is no line of a ledger, kept until the next one shows whether it was cut short.
@@ -119,7 +113,7 @@ impl<'a, W: Write> Audit<'a, W> {
     fn read_files<R: Runtime>(&mut self, rt: &R, files: &[&str]) -> Result<u8, Fault>
     where
         R::File: Drop,
-        ensures { IfOk result (λ status. (found : TheFindings) × (status ≡ status_at found)) }
+        ensures { IfOk result IsStatus }
     {
         let is_watched = isatty(STDERR_FILENO) == 1;
         let read = self.open_each(rt, files, is_watched);
@@ -130,7 +124,6 @@ impl<'a, W: Write> Audit<'a, W> {
         self.end()
     }
 
-    /// Opens the files of these paths, one after the other, and reads their lines.
     fn open_each<R: Runtime>(
         &mut self,
         rt: &R,
@@ -146,7 +139,6 @@ impl<'a, W: Write> Audit<'a, W> {
         Ok(())
     }
 
-    /// Opens the file of this path, and reads its lines.
     fn open<R: Runtime>(&mut self, rt: &R, path: &str, is_watched: bool) -> Result<(), Fault>
     where
         R::File: Drop,
@@ -161,7 +153,6 @@ impl<'a, W: Write> Audit<'a, W> {
         self.read_file(rt, path, &mut reader, is_watched)
     }
 
-    /// Reads the lines of a file.
     fn read_file<H: Runtime, R: BufRead>(
         &mut self,
         rt: &H,
@@ -182,8 +173,8 @@ impl<'a, W: Write> Audit<'a, W> {
             self.settle(file)?;
             match piece {
                 Piece::Whole => self.take(place)?,
-                Piece::TooLong => self.report.wrong(not_an_entry(place))?,
-                Piece::Unended => self.report.torn(TornLine { place })?,
+                Piece::TooLong => self.report.tell(Finding::Wrong(place, Reason::NotEntry))?,
+                Piece::Unended => self.report.tell(Finding::Torn(place))?,
                 Piece::End => break,
             }
         }
@@ -201,13 +192,12 @@ impl<'a, W: Write> Audit<'a, W> {
         self.held.line = None;
         let place = Place { file, line };
         if is_front(self.held.octets.as_slice(), self.line.as_slice()) {
-            self.report.torn(TornLine { place })
+            self.report.tell(Finding::Torn(place))
         } else {
-            self.report.wrong(not_an_entry(place))
+            self.report.tell(Finding::Wrong(place, Reason::NotEntry))
         }
     }
 
-    /// Takes the line that was read.
     fn take(&mut self, place: Place<'_>) -> Result<(), Fault> {
         if self.take_read(place)? {
             Ok(())
@@ -224,11 +214,11 @@ impl<'a, W: Write> Audit<'a, W> {
         let line = self.line.as_slice();
         let taken = match read_line(alloc, line, &mut self.room) {
             Ok(Line::Entry(entry)) => {
-                pass_line(runs, sums, entry.run, line);
+                pass_line(runs, sums, entry.about.run, line);
                 count_entry(alloc, config, runs, report, place, &entry)
             }
             Ok(Line::Left(left)) => {
-                pass_line(runs, sums, left.run, line);
+                pass_line(runs, sums, left.about.run, line);
                 count_left(config, runs, report, place, &left)
             }
             Ok(Line::Begin(begin)) => {
@@ -245,30 +235,20 @@ impl<'a, W: Write> Audit<'a, W> {
             Err(LineFault::NotALine) => return Ok(false),
             Err(LineFault::OutOfMemory) => return Err(Fault::Memory),
         };
-        match taken {
-            Ok(()) => Ok(true),
-            Err(fault) => Err(fault),
-        }
+        taken?;
+        Ok(true)
     }
 
-    /// Keeps the line until the next one is read.
     fn hold(&mut self, line: u64) -> Result<(), Fault> {
         self.held.octets.clear();
-        if self
-            .held
-            .octets
-            .extend_from_slice(self.line.as_slice())
-            .is_err()
-        {
-            return Err(Fault::Memory);
-        }
+        self.held.octets.extend_from_slice(self.line.as_slice())?;
         self.held.line = Some(line);
         Ok(())
     }
 
     /// Prints what each lane of each run has, and which sums were not found, and returns the status.
     fn end(&mut self) -> Result<u8, Fault>
-        ensures status { IfOk result (λ status. (found : TheFindings) × (status ≡ status_at found)) }
+        ensures status { IfOk result IsStatus }
         ensures fault { IfErr result (λ fault. fault ≡ Output) }
     {
         for run in self.runs.as_slice() {
@@ -276,7 +256,7 @@ impl<'a, W: Write> Audit<'a, W> {
         }
         for kept in self.sums.as_slice() {
             if !kept.is_found {
-                self.report.sum(SumLine { word: kept.word })?;
+                self.report.tell(Finding::Sum(kept.word))?;
             }
         }
         Ok(self.report.findings.status())
@@ -288,7 +268,6 @@ fn tell_place<R: Runtime>(rt: &R, place: Place<'_>) {
     let _ = eprint!(rt; "\u{1b}[K{place}\r");
 }
 
-/// Takes away what was told of the lines.
 fn clear_place<R: Runtime>(rt: &R) {
     let _ = eprint!(rt; "\u{1b}[K");
 }
@@ -301,14 +280,9 @@ fn begin_file<W: Write>(
     place: Place<'_>,
     begin: &Begin<'_>,
 ) -> Result<(), Fault> {
-    let run = begin.run;
-    match runs.begin(alloc, begin) {
-        Ok(Some(files)) => {
-            let files = MissingFiles(files);
-            report.files(FilesLine { place, run, files })
-        }
-        Ok(None) => Ok(()),
-        Err(_) => Err(Fault::Memory),
+    match runs.begin(alloc, begin)? {
+        Some(files) => report.tell(Finding::Files(place, begin.run, files)),
+        None => Ok(()),
     }
 }
 
@@ -332,7 +306,6 @@ fn pass_begin<W: Write>(
     tell_sum(report, place, is_right)
 }
 
-/// Tells if a line's sum is not right.
 fn tell_sum<W: Write>(
     report: &mut Report<'_, W>,
     place: Place<'_>,
@@ -341,8 +314,7 @@ fn tell_sum<W: Write>(
     if is_right {
         return Ok(());
     }
-    let reason = Reason::WrongSum;
-    report.wrong(WrongLine { place, reason })
+    report.tell(Finding::Wrong(place, Reason::WrongSum))
 }
 
 /// Adds a line to the chain of its run, if that is known.
@@ -362,8 +334,7 @@ fn pass_hidden<W: Write>(
     hidden: &Hidden,
 ) -> Result<(), Fault> {
     let Some(run) = runs.last() else {
-        let reason = Reason::UnknownLane;
-        return report.wrong(WrongLine { place, reason });
+        return report.tell(Finding::Wrong(place, Reason::UnknownLane));
     };
     run.chain.pass_hidden(hidden.sum);
     sums.see_run(run);
@@ -383,22 +354,12 @@ fn check_end<W: Write>(
     }
 }
 
-/// Whether octets are the front of longer ones.
 fn is_front(front: &[u8], next: &[u8]) -> bool
     ensures { IsTrue result ↔ IsFront front.now next.now }
 {
     front.len() < next.len() && next.starts_with(front)
 }
 
-/// Returns what is printed of a line that is no line of a ledger.
-fn not_an_entry(place: Place<'_>) -> WrongLine<'_> {
-    WrongLine {
-        place,
-        reason: Reason::NotEntry,
-    }
-}
-
-/// Counts an entry, or tells what is wrong with it.
 fn count_entry<W: Write>(
     alloc: Global,
     config: &Config,
@@ -409,43 +370,33 @@ fn count_entry<W: Write>(
 ) -> Result<(), Fault>
     requires { entry.now.serial < 2 ^ 63 }
 {
-    let home = secret_of_home(config, entry.home);
-    let client = secret_of_client(config, entry.client);
-    let lane = match runs.lane(entry.run, entry.lane) {
-        Some(lane) if lane.home.as_str() == entry.home => lane,
+    let home = secret_of_home(config, entry.about.home);
+    let client = secret_of_client(config, entry.about.client);
+    let lane = match runs.lane(entry.about.run, entry.about.lane) {
+        Some(lane) if lane.home.as_str() == entry.about.home => lane,
         _ => {
-            return match judge_stray(alloc, entry, home, client) {
-                Ok(reason) => report.wrong(WrongLine { place, reason }),
-                Err(_) => Err(Fault::Memory),
-            };
+            let reason = judge_stray(alloc, entry, home, client)?;
+            return report.tell(Finding::Wrong(place, reason));
         }
     };
-    match take_entry(
-        alloc,
-        entry,
-        home,
-        client,
-        &mut lane.tally,
-        &mut lane.account,
-    ) {
-        Ok(Taken::Wrong(reason)) => report.wrong(WrongLine { place, reason }),
-        Ok(Taken::Counted(gap)) => {
+    let (tally, account) = (&mut lane.tally, &mut lane.account);
+    match take_entry(alloc, entry, home, client, tally, account)? {
+        Taken::Wrong(reason) => report.tell(Finding::Wrong(place, reason)),
+        Taken::Counted(gap) => {
             lane.ending.go_on();
-            lane.times.take(moment_of(entry.time));
+            lane.times.take(moment_of(entry.about.time));
             if home.is_none() || client.is_none() {
                 lane.not_judged = lane.not_judged.saturating_add(1);
             }
             if let Some(gap) = gap {
-                let name = LaneName::of(entry.run, lane);
-                report.gap(GapLine { place, name, gap })?;
+                let name = LaneName::of(entry.about.run, lane);
+                report.tell(Finding::Gap(place, name, gap))?;
             }
             report.row(place, entry)
         }
-        Err(_) => Err(Fault::Memory),
     }
 }
 
-/// Counts a request that was left, or tells what is wrong with it.
 fn count_left<W: Write>(
     config: &Config,
     runs: &mut Runs,
@@ -453,24 +404,23 @@ fn count_left<W: Write>(
     place: Place<'_>,
     left: &Left<'_>,
 ) -> Result<(), Fault> {
-    let client = secret_of_client(config, left.client);
-    let lane = match runs.lane(left.run, left.lane) {
-        Some(lane) if lane.home.as_str() == left.home => lane,
+    let client = secret_of_client(config, left.about.client);
+    let lane = match runs.lane(left.about.run, left.about.lane) {
+        Some(lane) if lane.home.as_str() == left.about.home => lane,
         _ => {
             let reason = judge_stray_left(left, client);
-            return report.wrong(WrongLine { place, reason });
+            return report.tell(Finding::Wrong(place, reason));
         }
     };
-    match take_left(left, client, &mut lane.account) {
-        Ok(Some(reason)) => report.wrong(WrongLine { place, reason }),
-        Ok(None) => {
+    match take_left(left, client, &mut lane.account)? {
+        Some(reason) => report.tell(Finding::Wrong(place, reason)),
+        None => {
             lane.ending.go_on();
             if client.is_none() {
                 lane.not_judged = lane.not_judged.saturating_add(1);
             }
             report.left_row(place, left)
         }
-        Err(_) => Err(Fault::Memory),
     }
 }
 
@@ -482,64 +432,47 @@ fn tell_run<W: Write>(report: &mut Report<'_, W>, runs: &Runs, run: &Run) -> Res
     for lane in run.lanes.as_slice() {
         tell_lane(report, run, lane)?;
     }
-    if let Some(line) = HiddenLine::of(run) {
-        report.hidden(line)?;
+    if let Some(hidden) = Finding::of_hidden(run) {
+        report.tell(hidden)?;
     }
     match &run.before {
-        Some(file) if !runs.has(file) => report.before(BeforeLine::of(run.run, file)),
+        Some(file) if !runs.has(file) => report.tell(Finding::Before(run.run, file)),
         _ => Ok(()),
     }
 }
 
-/// Prints what a lane of a run has.
 fn tell_lane<W: Write>(report: &mut Report<'_, W>, run: &Run, lane: &Lane) -> Result<(), Fault>
     ensures { IfErr result (λ fault. fault ≡ Output) }
 {
-    report.lane(LaneLine::of(run, lane))?;
-    if let Some(line) = FatesLine::of(run.run, lane) {
-        report.fates(line)?;
+    let counts = LaneCounts::of(run, lane);
+    let name = counts.name;
+    report.tell(Finding::Lane(counts))?;
+    if let Some(fates) = Finding::of_fates(name, lane) {
+        report.tell(fates)?;
     }
     if !lane.account.is_exact() {
-        let name = LaneName::of(run.run, lane);
-        report.ranges(RangesLine { name })?;
+        report.tell(Finding::Ranges(name))?;
     }
-    if let Some(line) = BackLine::of(run.run, lane) {
-        report.back(line)?;
+    match Finding::of_back(name, lane) {
+        Some(back) => report.tell(back),
+        None => Ok(()),
     }
-    Ok(())
 }
 
-/// Returns the secret of the home server with this name, if the configuration has it.
 fn secret_of_home<'a>(config: &'a Config, name: &str) -> Option<&'a Secret>
     ensures { option_copied result ≡ option_map (λ h. h.secret) (find (λ h. bytes_eq h.name name.now) config.now.homes) }
 {
-    match home_of(config, name) {
-        Some(home) => Some(home.secret()),
-        None => None,
-    }
+    let mut homes = config.homes().iter();
+    let home = homes.find(|home: &&Home| home.name() == name)?;
+    Some(home.secret())
 }
 
-/// Returns the home server with this name, if the configuration has it.
-fn home_of<'a>(config: &'a Config, name: &str) -> Option<&'a Home>
-    ensures { option_copied result ≡ find (λ h. bytes_eq h.name name.now) config.now.homes }
-{
-    config
-        .homes()
-        .iter()
-        .find(|home: &&Home| home.name() == name)
-}
-
-/// Returns the secret of the client at this address, if the configuration has it.
 fn secret_of_client(config: &Config, address: [u8; 4]) -> Option<&Secret>
     ensures { option_copied result ≡ option_map (λ c. c.secret) (client_of config.now address) }
 {
-    match config.client_of(address) {
-        Some(client) => Some(client.secret()),
-        None => None,
-    }
+    Some(config.client_of(address)?.secret())
 }
 
-/// A run ends.
 fn take_end<W: Write>(
     runs: &mut Runs,
     report: &mut Report<'_, W>,
@@ -548,8 +481,7 @@ fn take_end<W: Write>(
 ) -> Result<(), Fault> {
     for count in end.lanes.iter() {
         let Some(lane) = runs.lane(end.run, count.lane) else {
-            let reason = Reason::UnknownLane;
-            report.wrong(WrongLine { place, reason })?;
+            report.tell(Finding::Wrong(place, Reason::UnknownLane))?;
             continue;
         };
         let fates = fates_of(count);
@@ -560,13 +492,12 @@ fn take_end<W: Write>(
         lane.account.end(fates);
         if let Some(gap) = lane.tally.end(count.entries) {
             let name = LaneName::of(end.run, lane);
-            report.gap(GapLine { place, name, gap })?;
+            report.tell(Finding::Gap(place, name, gap))?;
         }
     }
     Ok(())
 }
 
-/// Returns what an end line says of the requests of a lane, if it does.
 fn fates_of(count: &LaneCount) -> Option<Fates>
     ensures { MatchOption count.now.accepted (result ≡ None) (λ accepted. MatchOption count.now.left (result ≡ None) (λ left. MatchOption result ⊥ (λ fates. (fates.accepted ≡ accepted) × (fates.left ≡ left)))) }
 {

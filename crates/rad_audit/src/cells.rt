@@ -1,11 +1,11 @@
 //! The words of a row.
 
-ghost use Rattle.std.specs.Prelude.{◌≡◌, chars, codes, bytes_eq};
+ghost use Rattle.std.specs.Prelude.{◌≡◌, codes, bytes_eq};
 ghost use Rattle.std.specs.Fmt.{WritesOnOk};
 ghost use Rattle.std.specs.List.{flat_map, list_all};
-ghost use Rattle.rad_audit.specs.Cells.{character_cell, is_escaped as the_is_escaped, is_plain as the_is_plain, octet_cell, text_cell};
+ghost use Rattle.rad_audit.specs.Cells.{is_plain as the_is_plain, octet_cell, text_cell};
 
-use crate::shown::{is_hidden, write_escaped};
+use crate::shown::{Within, write_characters};
 use rad_log::Escaped;
 use rad_realms::AddressText;
 use std::fmt;
@@ -22,10 +22,6 @@ pub struct NumberCell(pub Option<u64>);
 /// A client's IPv4 address.
 #[derive(Clone, Copy)]
 pub struct ClientCell(pub [u8; 4]);
-
-/// A character of a text.
-#[derive(Clone, Copy)]
-struct Character(char);
 
 /// An octet of a value that is not UTF-8.
 #[derive(Clone, Copy)]
@@ -85,21 +81,9 @@ fn write_text<W: fmt::Write>(f: &mut fmt::Formatter<W>, text: &str) -> fmt::Resu
     if are_plain(text.as_bytes()) {
         return f.write_str(text);
     }
-    write_characters(f, text)
+    write_characters(f, text, Within::Row)
 }
 
-/// Writes a text, one character after the other.
-fn write_characters<W: fmt::Write>(f: &mut fmt::Formatter<W>, text: &str) -> fmt::Result
-    ensures { WritesOnOk W.write_str_gives f.old result (flat_map character_cell (chars text.now)) f.new }
-{
-    for character in text.chars() {
-        let character = Character(character);
-        write!(f, "{character}")?;
-    }
-    Ok(())
-}
-
-/// Writes a value that is not UTF-8, one octet after the other.
 fn write_octets<W: fmt::Write>(f: &mut fmt::Formatter<W>, octets: &[u8]) -> fmt::Result
     ensures { WritesOnOk W.write_str_gives f.old result (flat_map octet_cell octets.now) f.new }
 {
@@ -108,21 +92,6 @@ fn write_octets<W: fmt::Write>(f: &mut fmt::Formatter<W>, octets: &[u8]) -> fmt:
         write!(f, "{octet}")?;
     }
     Ok(())
-}
-
-impl fmt::Display for Character {
-    ghost use Rattle.std.specs.Prelude.{Some};
-    ghost use Rattle.rad_audit.specs.Cells.{character_cell};
-
-    ghost output = { λ character. Some (character_cell character.0) };
-
-    fn fmt<W: fmt::Write>(&self, f: &mut fmt::Formatter<W>) -> fmt::Result {
-        let character = self.0;
-        if !is_escaped(character) {
-            return write!(f, "{character}");
-        }
-        write_escaped(f, character)
-    }
 }
 
 impl fmt::Display for Octet {
@@ -145,28 +114,18 @@ impl fmt::Display for Octet {
     }
 }
 
-/// Whether a value is printed as a missing one would be.
 fn is_hyphen(value: &[u8]) -> bool
     ensures { result ≡ bytes_eq value.now (codes "-") }
 {
     value == b"-".as_slice()
 }
 
-/// Whether octets are all printed as they are.
 fn are_plain(octets: &[u8]) -> bool
     ensures { result ≡ list_all the_is_plain octets.now }
 {
     octets.iter().all(|octet| is_plain(*octet))
 }
 
-/// Whether a character of a text is printed by its octets.
-fn is_escaped(character: char) -> bool
-    ensures { result ≡ the_is_escaped character }
-{
-    is_hidden(character) || character == '%' || character == '\\'
-}
-
-/// Whether an octet of a value that is not UTF-8 is printed as it is: a space or visible ASCII, but `%` and `\`.
 fn is_plain(octet: u8) -> bool
     ensures { result ≡ the_is_plain octet }
 {

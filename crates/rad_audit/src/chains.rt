@@ -67,7 +67,6 @@ impl RunChain {
         }
     }
 
-    /// Whether a sum is that of the chain, if there is one.
     fn fits(&self, sum: [u8; 32]) -> bool
         ensures { IsTrue result ↔ IfSome self.now.chain (λ chain. chain.sum ≡ sum) }
     {
@@ -102,10 +101,7 @@ impl RunChain {
     pub fn sum(&self) -> Option<[u8; 32]>
         ensures { result ≡ option_map (λ chain. chain.sum) self.now.chain }
     {
-        match self.chain {
-            Some(chain) => Some(chain.sum()),
-            None => None,
-        }
+        Some(self.chain?.sum())
     }
 
     /// Returns the number of the file that is read; 0 if no `begin` was.
@@ -130,14 +126,12 @@ impl RunChain {
     }
 }
 
-/// Returns the chain behind a line, which is given without its line end, that has this sum before it.
 fn chain_behind(sum: [u8; 32], line: &[u8]) -> Chain
     ensures { result.sum ≡ chain_after sum (sha256 (line.now ++ 10 ∷ [])) }
 {
     with_digest(Chain::from_sum(sum), digest_of(line))
 }
 
-/// Returns a chain with the line of this SHA-256 behind it.
 fn with_digest(chain: Chain, digest: [u8; 32]) -> Chain
     ensures { result.sum ≡ chain_after chain.sum digest }
 {

@@ -106,8 +106,6 @@ fn number_of(value: &[u8]) -> Option<u32>
     }
 }
 
-/// Returns how many octets a packet counts: 2^32 times the number in its first attribute of one Type, if it has one, and
-/// the number in that of the other.
 fn octets_at(packet: &PacketRef<'_>, gigawords: u8, octets: u8) -> Option<u64>
     ensures { result ≡ the_octets_at gigawords octets packet.now }
 {
@@ -118,7 +116,6 @@ fn octets_at(packet: &PacketRef<'_>, gigawords: u8, octets: u8) -> Option<u64>
     }
 }
 
-/// Returns the same number, in more octets.
 fn widened(number: Option<u32>) -> Option<u64>
     ensures { result ≡ number }
 {
@@ -128,7 +125,6 @@ fn widened(number: Option<u32>) -> Option<u64>
     }
 }
 
-/// Returns 2^32 times a number of gigawords, and a number of octets.
 fn with_gigawords(gigawords: u32, octets: u32) -> u64
     ensures { result ≡ 2 ^ 32 * gigawords + octets }
 {

@@ -1,8 +1,11 @@
 //! The faults that end the program.
 
+ghost use Rattle.std.specs.Prelude.{◌≡◌, ◌↔◌, IsOk, IfErr};
+ghost use Rattle.rad_audit.specs.declared.faults.Fault.TheVariants.{Output};
+
 use crate::shown::Word;
 use rad_realms::ConfigFault;
-use std::alloc::Global;
+use std::alloc::{AllocError, Global};
 use std::io::{Error, ErrorKind};
 use thiserror::Error as FaultError;
 
@@ -49,5 +52,27 @@ impl Fault {
             Ok(path) => Fault::File(path),
             Err(_) => Fault::Memory,
         }
+    }
+}
+
+impl From<AllocError> for Fault {
+    ghost use Rattle.std.specs.Prelude.{◌≡◌};
+    ghost use Rattle.rad_audit.specs.declared.faults.Fault.TheVariants.{Memory};
+
+    ghost from_gives = { λ _ fault. fault ≡ Memory };
+
+    fn from(_refused: AllocError) -> Fault {
+        Fault::Memory
+    }
+}
+
+/// Returns the fault of an output that takes nothing more, if it is one.
+pub fn written<E: Drop>(writing: Result<(), E>) -> Result<(), Fault>
+    ensures ok { IsOk result ↔ IsOk writing }
+    ensures fault { IfErr result (λ fault. fault ≡ Output) }
+{
+    match writing {
+        Ok(()) => Ok(()),
+        Err(_) => Err(Fault::Output),
     }
 }

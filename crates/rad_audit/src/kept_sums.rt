@@ -40,19 +40,11 @@ impl<'a> KeptSum<'a> {
         })
     }
 
-    /// Returns the same, once this run has this sum in this file.
     fn seen(self, run: u64, file: u64, sum: [u8; 32]) -> KeptSum<'a>
         ensures { result ≡ the_seen run file sum self.entry }
     {
         let is_found = self.is_found || (self.run == run && self.file == file && self.sum == sum);
-        let kept = self.sum;
-        KeptSum {
-            word: self.word,
-            run: self.run,
-            file: self.file,
-            sum: kept,
-            is_found,
-        }
+        KeptSum { is_found, ..self }
     }
 }
 
@@ -83,10 +75,8 @@ impl<'a> KeptSums<'a> {
     pub fn add(&mut self, sum: KeptSum<'a>) -> Result<(), AllocError>
         ensures { OnOk result (self.new.sums.items ≡ self.old.sums.items ++ sum.entry ∷ []) }
     {
-        match self.sums.push(sum) {
-            Ok(()) => Ok(()),
-            Err(_) => Err(AllocError),
-        }
+        self.sums.push(sum)?;
+        Ok(())
     }
 
     /// Returns the sums.

@@ -61,7 +61,11 @@ impl LineRoom {
             if end.is_some() {
                 file.take(&buffer[..=count]);
                 reader.consume(count + 1);
-                return Ok(self.ended());
+                return Ok(if self.octets.len() <= MOST_LINE_OCTETS {
+                    Piece::Whole
+                } else {
+                    Piece::TooLong
+                });
             }
             if count == 0 {
                 break;
@@ -69,7 +73,11 @@ impl LineRoom {
             file.take(&buffer[..count]);
             reader.consume(count);
         }
-        Ok(self.unended())
+        Ok(if self.octets.is_empty() {
+            Piece::End
+        } else {
+            Piece::Unended
+        })
     }
 
     /// Adds octets of a line, as far as there is room.
@@ -78,23 +86,5 @@ impl LineRoom {
         self.octets
             .extend_from_slice(&octets[..octets.len().min(room)])?;
         Ok(())
-    }
-
-    /// Returns what the line is that a line feed ended.
-    fn ended(&self) -> Piece {
-        if self.octets.len() <= MOST_LINE_OCTETS {
-            Piece::Whole
-        } else {
-            Piece::TooLong
-        }
-    }
-
-    /// Returns what the line is that the end of the file ended.
-    fn unended(&self) -> Piece {
-        if self.octets.is_empty() {
-            Piece::End
-        } else {
-            Piece::Unended
-        }
     }
 }

@@ -23,14 +23,13 @@ mod wording;
 mod words;
 
 ghost use Rattle.std.specs.Prelude.{◌≡◌, ◌≤◌, ℕ, List, length, IfErr, IfOk, Ok};
-ghost use Rattle.rad_console.specs.Configurations.{ReadsOctets};
-ghost use Rattle.rad_audit.specs.Statuses.{status_at, status_of};
-ghost use Rattle.rad_audit.specs.declared.printing.Findings.{Findings as TheFindings};
+ghost use Rattle.rad_files.specs.Configurations.{ReadsOctets};
+ghost use Rattle.rad_audit.specs.Statuses.{IsStatus, status_of};
 
 use auditing::audit_files;
-use faults::Fault;
+use faults::{Fault, written};
 use printing::{NO_FINDINGS, Outputs};
-use rad_console::{read_at_most, read_configuration};
+use rad_files::{read_at_most, read_configuration};
 use rad_realms::Config;
 use std::alloc::{AllocGlobal, Global};
 use std::env::{self, Env};
@@ -57,11 +56,10 @@ fn main(rt: HostRuntime) -> ExitCode {
     ExitCode::from(status)
 }
 
-/// Does what the words ask for, and returns the status.
 fn obey_words<R: Runtime + AllocGlobal>(rt: &R) -> Result<u8, Fault>
 where
     R::File: Drop,
-    ensures { IfOk result (λ status. (found : TheFindings) × (status ≡ status_at found)) }
+    ensures { IfOk result IsStatus }
 {
     let arguments = read_arguments(rt)?;
     obey_arguments(rt, rt.alloc(), arguments.as_slice())
@@ -71,7 +69,7 @@ where
 fn obey_arguments<R: Runtime>(rt: &R, alloc: Global, arguments: &[String]) -> Result<u8, Fault>
 where
     R::File: Drop,
-    ensures { IfOk result (λ status. (found : TheFindings) × (status ≡ status_at found)) }
+    ensures { IfOk result IsStatus }
 {
     match read_words(alloc, arguments)? {
         Wanted::Audit(words) => audit_words(rt, alloc, words),
@@ -81,13 +79,11 @@ where
 
 /// Prints the text of `--help`, or of `--version`, on standard output, and returns the status.
 fn print_text<R: Runtime>(rt: &R, text: &clap::Error) -> Result<u8, Fault>
-    ensures status { IfOk result (λ status. (found : TheFindings) × (status ≡ status_at found)) }
+    ensures status { IfOk result IsStatus }
     ensures none { IfOk result (λ status. status ≡ 0) }
 {
-    match print!(rt; "{text}") {
-        Ok(()) => Ok(NO_FINDINGS.status()),
-        Err(_) => Err(Fault::Output),
-    }
+    written(print!(rt; "{text}"))?;
+    Ok(NO_FINDINGS.status())
 }
 
 /// Audits the files that these words name, and returns the status. It prints what it finds on standard output. If rows are
@@ -95,7 +91,7 @@ fn print_text<R: Runtime>(rt: &R, text: &clap::Error) -> Result<u8, Fault>
 fn audit_words<R: Runtime>(rt: &R, alloc: Global, words: Words<'_>) -> Result<u8, Fault>
 where
     R::File: Drop,
-    ensures { IfOk result (λ status. (found : TheFindings) × (status ≡ status_at found)) }
+    ensures { IfOk result IsStatus }
 {
     let Words {
         rows,
@@ -118,13 +114,12 @@ where
     };
     let audited = audit_files(rt, alloc, &config, asked, files.as_slice(), sums, outputs);
     if let Some(rows) = &mut rows {
-        flush(rows)?;
+        written(rows.flush())?;
     }
-    flush(&mut lines)?;
+    written(lines.flush())?;
     audited
 }
 
-/// Returns a stream with a buffer.
 fn buffered<P: Print>(
     alloc: Global,
     stream: Stream<'_, P>,
@@ -135,15 +130,6 @@ fn buffered<P: Print>(
     }
 }
 
-/// Writes what a buffer has.
-fn flush<W: Write>(output: &mut W) -> Result<(), Fault> {
-    match output.flush() {
-        Ok(()) => Ok(()),
-        Err(_) => Err(Fault::Output),
-    }
-}
-
-/// Reads the configuration in a file.
 fn load<R: Files>(rt: &R, alloc: Global, path: &str) -> Result<Config, Fault>
 where
     R::File: Drop,
@@ -164,7 +150,6 @@ where
     }
 }
 
-/// Returns the words that the program was called with, its own name first.
 fn read_arguments<R: Env + AllocGlobal>(rt: &R) -> Result<Vec<String>, Fault> {
     let arguments = match env::args(rt) {
         Ok(arguments) => arguments,
@@ -176,7 +161,6 @@ fn read_arguments<R: Env + AllocGlobal>(rt: &R) -> Result<Vec<String>, Fault> {
     }
 }
 
-/// Returns the fault of words that can't be read.
 fn fault_of_words(error: &Error) -> Fault {
     match error.kind() {
         ErrorKind::OutOfMemory => Fault::Memory,

@@ -39,12 +39,10 @@ impl NamedFile {
     pub fn new(alloc: Global, before: &FileBefore<'_>) -> Result<NamedFile, AllocError>
         ensures { IfOk result (λ named. (string_bytes named.name.0 ≡ before.now.name.now) × (named.octets ≡ before.now.octets) × (named.sum ≡ before.now.sha256)) }
     {
-        let name = Word::new(alloc, before.name)?;
-        let sum = before.sha256;
         Ok(NamedFile {
-            name,
+            name: Word::new(alloc, before.name)?,
             octets: before.octets,
-            sum,
+            sum: before.sha256,
         })
     }
 
@@ -57,10 +55,7 @@ impl NamedFile {
 
     /// Returns its run, if its name has one.
     pub fn run(&self) -> Option<u64> {
-        match parts_of(self.name.as_str()) {
-            Some(parts) => Some(parts.run),
-            None => None,
-        }
+        Some(parts_of(self.name.as_str())?.run)
     }
 
     /// Whether this file of that run is it.
@@ -71,7 +66,6 @@ impl NamedFile {
         }
     }
 
-    /// Whether it has as many octets as this file, and its SHA-256, if that is looked at.
     fn has(&self, file: &ReadFile) -> bool
         ensures { IsTrue result ↔ HasContents self.now file.now }
     {

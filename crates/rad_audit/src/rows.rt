@@ -2,12 +2,12 @@
 
 ghost use Rattle.std.specs.Prelude.{◌≡◌, MatchOption};
 ghost use Rattle.rad_packet.specs.Packet.{IsPacketText};
-ghost use Rattle.rad_audit.specs.Rows.{row_of, row_of_left, name_of, name_of_left, name_words, words_of};
+ghost use Rattle.rad_audit.specs.Rows.{row_of, row_of_left, name_of, name_words, words_of};
 
 use crate::cells::{Cell, ClientCell, NumberCell};
 use crate::facts::Facts;
 use crate::printing::Place;
-use rad_ledger::{Entry, Left, LeftState, whole_packet};
+use rad_ledger::{Entry, Left, LeftState, LineRequest, whole_packet};
 use std::fmt;
 
 /// What became of a record.
@@ -60,14 +60,12 @@ impl<'a> Row<'a> {
         let response = whole_packet(entry.response)?;
         Some(Row {
             place,
-            name: RecordName::of_entry(entry),
-            facts: Facts::of(response.identifier(), entry.home, &sent),
+            name: RecordName::of(&entry.about, Some(entry.serial)),
+            facts: Facts::of(response.identifier(), entry.about.home, &sent),
             state: State::Answered,
         })
     }
-}
 
-impl<'a> Row<'a> {
     /// Returns the row of a request that was left, if its packet is one.
     pub fn of_left(place: Place<'a>, left: &Left<'a>) -> Option<Row<'a>>
         ensures { MatchOption result (¬ IsPacketText left.now.request.now) (λ row. words_of row ≡ row_of_left place.entry left.now) }
@@ -75,41 +73,25 @@ impl<'a> Row<'a> {
         let request = whole_packet(left.request)?;
         Some(Row {
             place,
-            name: RecordName::of_left(left),
-            facts: Facts::of(left.identifier, left.home, &request),
+            name: RecordName::of(&left.about, None),
+            facts: Facts::of(left.about.identifier, left.about.home, &request),
             state: State::Left(left.state),
         })
     }
 }
 
 impl<'a> RecordName<'a> {
-    /// Returns what the line of a request that was left says of it.
-    fn of_left(left: &Left<'a>) -> RecordName<'a>
-        ensures { name_words result ≡ name_of_left left.now }
+    fn of(about: &LineRequest<'a>, serial: Option<u64>) -> RecordName<'a>
+        ensures { name_words result ≡ name_of about.now serial }
     {
         RecordName {
-            run: left.run,
-            lane: left.lane,
-            serial: None,
-            number: left.number,
-            time: left.time,
-            client: left.client,
-            port: left.port,
-        }
-    }
-
-    /// Returns what an entry's line says of its record.
-    fn of_entry(entry: &Entry<'a>) -> RecordName<'a>
-        ensures { name_words result ≡ name_of entry.now }
-    {
-        RecordName {
-            run: entry.run,
-            lane: entry.lane,
-            serial: Some(entry.serial),
-            number: entry.number,
-            time: entry.time,
-            client: entry.client,
-            port: entry.port,
+            run: about.run,
+            lane: about.lane,
+            serial,
+            number: about.number,
+            time: about.time,
+            client: about.client,
+            port: about.port,
         }
     }
 }

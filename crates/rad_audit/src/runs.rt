@@ -75,61 +75,28 @@ impl Runs {
     ///
     /// `AllocError` if memory is refused. The run then has no lanes.
     pub fn begin(&mut self, alloc: Global, begin: &Begin<'_>) -> Result<Option<Gap>, AllocError> {
-        if let Some(files) = self.files_of(begin.run) {
-            return Ok(files.take(begin.file));
+        if let Some(run) = self.run(begin.run) {
+            return Ok(run.files.take(begin.file));
         }
         self.add(alloc, begin)?;
         Ok(None)
     }
 
-    /// Returns the files of a run, if it is known.
-    fn files_of(&mut self, run: u64) -> Option<&mut RunFiles> {
-        let place = self.place_of(run)?;
-        match self.runs.get_mut(place) {
-            Some(run) => Some(&mut run.files),
-            None => None,
-        }
-    }
-
-    /// Adds the run that the first line of a file names.
     fn add(&mut self, alloc: Global, begin: &Begin<'_>) -> Result<(), AllocError> {
-        let run = begin.run;
-        self.name(run)?;
-        let mut lanes = Vec::with_capacity(alloc, begin.lanes.len())?;
-        match add_lanes(alloc, &mut lanes, begin) {
-            Ok(()) => self.push(alloc, begin, lanes),
-            Err(refused) => Err(refused),
-        }
-    }
-
-    /// Adds a run that is known from this file on.
-    fn push(
-        &mut self,
-        alloc: Global,
-        begin: &Begin<'_>,
-        lanes: Vec<Lane>,
-    ) -> Result<(), AllocError> {
+        self.places.insert(begin.run, self.runs.len())?;
+        let lanes = lanes_of(alloc, begin)?;
         let before = before_of(alloc, begin)?;
-        let run = Run {
+        self.runs.push(Run {
             run: begin.run,
             files: RunFiles::from(begin.file),
             newest: None,
             before,
             lanes,
             chain: RunChain::new(),
-        };
-        push(&mut self.runs, run)
+        })?;
+        Ok(())
     }
 
-    /// Keeps the place at which a run comes next.
-    fn name(&mut self, run: u64) -> Result<(), AllocError> {
-        match self.places.insert(run, self.runs.len()) {
-            Ok(_) => Ok(()),
-            Err(_) => Err(AllocError),
-        }
-    }
-
-    /// Returns the place of a run.
     fn place_of(&self, run: u64) -> Option<usize> {
         if self.runs.get(self.last).is_some_and(|last| last.run == run) {
             return Some(self.last);
@@ -154,16 +121,16 @@ impl Runs {
 
     /// Whether a file that a run names was read.
     pub fn has(&self, named: &NamedFile) -> bool {
-        let Some(run) = named.run() else {
-            return false;
-        };
-        let Some(place) = self.places.get(&run) else {
-            return false;
-        };
-        match self.runs.get(*place) {
-            Some(run) => run.newest.is_some_and(|newest| named.is(&newest)),
+        match self.newest_of(named) {
+            Some(newest) => named.is(&newest),
             None => false,
         }
+    }
+
+    /// Returns the file of the greatest number of the run of a file that is named, if one was read.
+    fn newest_of(&self, named: &NamedFile) -> Option<ReadFile> {
+        let place = self.places.get(&named.run()?)?;
+        self.runs.get(*place)?.newest
     }
 
     /// Returns the run that was last asked for, if there is one.
@@ -178,7 +145,6 @@ impl Runs {
     }
 }
 
-/// Returns the file of another run that the first line of a file names, if it names one.
 fn before_of(alloc: Global, begin: &Begin<'_>) -> Result<Option<NamedFile>, AllocError> {
     match &begin.before {
         Some(before) => Ok(Some(NamedFile::new(alloc, before)?)),
@@ -186,15 +152,14 @@ fn before_of(alloc: Global, begin: &Begin<'_>) -> Result<Option<NamedFile>, Allo
     }
 }
 
-/// Adds the lanes that a line names, with no entry yet.
-fn add_lanes(alloc: Global, lanes: &mut Vec<Lane>, begin: &Begin<'_>) -> Result<(), AllocError> {
+fn lanes_of(alloc: Global, begin: &Begin<'_>) -> Result<Vec<Lane>, AllocError> {
+    let mut lanes = Vec::with_capacity(alloc, begin.lanes.len())?;
     for start in begin.lanes.iter() {
-        push(lanes, lane_of(alloc, start)?)?;
+        lanes.push(lane_of(alloc, start)?)?;
     }
-    Ok(())
+    Ok(lanes)
 }
 
-/// Returns the lane that a line names, with no entry yet.
 fn lane_of(alloc: Global, start: &LaneStart<'_>) -> Result<Lane, AllocError> {
     Ok(Lane {
         number: start.lane,
@@ -205,12 +170,4 @@ fn lane_of(alloc: Global, start: &LaneStart<'_>) -> Result<Lane, AllocError> {
         times: Times::new(),
         not_judged: 0,
     })
-}
-
-/// Adds a value at the end.
-fn push<T: Drop>(list: &mut Vec<T>, value: T) -> Result<(), AllocError> {
-    match list.push(value) {
-        Ok(()) => Ok(()),
-        Err(_) => Err(AllocError),
-    }
 }

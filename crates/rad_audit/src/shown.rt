@@ -1,11 +1,11 @@
 //! Words as they are printed.
 
-ghost use Rattle.std.specs.Prelude.{◌≡◌, true};
+ghost use Rattle.std.specs.Prelude.{◌≡◌, chars, true};
 ghost use Rattle.std.specs.Char.{encode_utf8};
 ghost use Rattle.std.specs.Fmt.{WritesOnOk};
 ghost use Rattle.std.specs.List.{flat_map};
-ghost use Rattle.rad_audit.specs.Cells.{is_escaped};
-ghost use Rattle.rad_audit.specs.Shown.{format_runs as the_format_runs, is_format as the_is_format, is_hidden as the_is_hidden, octet_text, word_text};
+ghost use Rattle.rad_audit.specs.Shown.{character_text, format_runs as the_format_runs, is_escaped as the_is_escaped, is_format as the_is_format, is_hidden as the_is_hidden, octet_text};
+ghost use Rattle.rad_audit.specs.declared.shown.Within.{Within as TheWithin};
 
 use rad_log::Escaped;
 use std::alloc::{AllocError, Global};
@@ -17,9 +17,19 @@ use std::fmt;
 #[derive(Clone, Copy)]
 pub struct Shown<'a>(pub &'a str);
 
-/// A character of such a word.
+/// Where a word is printed. In a row `%` and `\` are printed by their octets too.
 #[derive(Clone, Copy)]
-struct ShownCharacter(char);
+pub enum Within {
+    Line,
+    Row,
+}
+
+/// A character of a word.
+#[derive(Clone, Copy)]
+struct Character {
+    character: char,
+    within: Within,
+}
 
 impl fmt::Display for Shown<'_> {
     ghost use Rattle.std.specs.Prelude.{Some};
@@ -28,44 +38,55 @@ impl fmt::Display for Shown<'_> {
     ghost output = { λ word. Some (word_text word.0.now) };
 
     fn fmt<W: fmt::Write>(&self, f: &mut fmt::Formatter<W>) -> fmt::Result {
-        write_word(f, self.0)
+        write_characters(f, self.0, Within::Line)
     }
 }
 
 /// Writes a word, one character after the other.
-fn write_word<W: fmt::Write>(f: &mut fmt::Formatter<W>, word: &str) -> fmt::Result
-    ensures { WritesOnOk W.write_str_gives f.old result (word_text word.now) f.new }
+pub fn write_characters<W: fmt::Write>(
+    f: &mut fmt::Formatter<W>,
+    word: &str,
+    within: Within,
+) -> fmt::Result
+    ensures { WritesOnOk W.write_str_gives f.old result (flat_map (character_text within) (chars word.now)) f.new }
 {
     for character in word.chars() {
-        let character = ShownCharacter(character);
+        let character = Character { character, within };
         write!(f, "{character}")?;
     }
     Ok(())
 }
 
-impl fmt::Display for ShownCharacter {
+impl fmt::Display for Character {
     ghost use Rattle.std.specs.Prelude.{Some};
     ghost use Rattle.rad_audit.specs.Shown.{character_text};
 
-    ghost output = { λ character. Some (character_text character.0) };
+    ghost output = { λ its. Some (character_text its.within its.character) };
 
     fn fmt<W: fmt::Write>(&self, f: &mut fmt::Formatter<W>) -> fmt::Result {
-        let character = self.0;
-        if !is_hidden(character) {
+        let character = self.character;
+        if !is_escaped(character, self.within) {
             return write!(f, "{character}");
         }
         write_escaped(f, character)
     }
 }
 
-/// Whether a character is not printed as it is: a control or format character, or a separator of lines or paragraphs.
-pub fn is_hidden(character: char) -> bool
+fn is_escaped(character: char, within: Within) -> bool
+    ensures { result ≡ the_is_escaped within character }
+{
+    match within {
+        Within::Line => is_hidden(character),
+        Within::Row => is_hidden(character) || character == '%' || character == '\\',
+    }
+}
+
+fn is_hidden(character: char) -> bool
     ensures { result ≡ the_is_hidden character }
 {
     character.is_control() || is_format(u32::from(character))
 }
 
-/// Whether a code point is in one of the runs.
 fn is_format(code: u32) -> bool
     ensures { result ≡ the_is_format code }
 {
@@ -74,8 +95,6 @@ fn is_format(code: u32) -> bool
         .any(|run| run.0 <= code && code <= run.1)
 }
 
-/// Returns the first and the last code point of each run of Unicode's format characters, and of its separators of lines and
-/// paragraphs.
 fn format_runs() -> &'static [(u32, u32)]
     ensures { result.now ≡ the_format_runs }
 {
@@ -103,9 +122,8 @@ fn format_runs() -> &'static [(u32, u32)]
     ]
 }
 
-/// Writes each octet of a character as `%` and two hexadecimal digits, if it is a hidden one, `%` or `\`.
-pub fn write_escaped<W: fmt::Write>(f: &mut fmt::Formatter<W>, character: char) -> fmt::Result
-    ensures { is_escaped character ≡ true → WritesOnOk W.write_str_gives f.old result (flat_map octet_text (encode_utf8 character)) f.new }
+fn write_escaped<W: fmt::Write>(f: &mut fmt::Formatter<W>, character: char) -> fmt::Result
+    ensures { (within : TheWithin) → the_is_escaped within character ≡ true → WritesOnOk W.write_str_gives f.old result (flat_map octet_text (encode_utf8 character)) f.new }
 {
     let mut room = [0; 4];
     let octets = Escaped {

@@ -39,14 +39,14 @@ pub fn take_entry(
     ensures refused { IfErr result (λ _. (tally.new ≡ tally.old) × IsAsBefore account.old.numbers account.new.numbers) }
 {
     let next = Some(tally.next());
-    let twice = account.has(entry.number);
+    let twice = account.has(entry.about.number);
     if let Some(reason) = judge(alloc, entry, home, client, next, twice)? {
         return Ok(Taken::Wrong(reason));
     }
-    if !are_words_of(entry.sent, LineWords::of_entry(entry)) {
+    if !are_words_of(entry.sent, LineWords::of(&entry.about)) {
         return Ok(Taken::Wrong(Reason::WrongWords));
     }
-    if !account.answer(entry.number)? {
+    if !account.answer(entry.about.number)? {
         return Ok(Taken::Wrong(Reason::RecordTwice));
     }
     match tally.take(entry.serial) {
@@ -88,14 +88,14 @@ pub fn take_left(
     ensures taken { IfOk result (λ wrong. Leaves left.now (option_copied client.entry) account.old wrong account.new) }
     ensures refused { IfErr result (λ _. IsAsBefore account.old.numbers account.new.numbers × (account.new.left ≡ account.old.left)) }
 {
-    let twice = account.has(left.number);
+    let twice = account.has(left.about.number);
     if let Some(reason) = judge_left(left, client, true, twice) {
         return Ok(Some(reason));
     }
-    if !are_words_of(left.request, LineWords::of_left(left)) {
+    if !are_words_of(left.request, LineWords::of(&left.about)) {
         return Ok(Some(Reason::WrongWords));
     }
-    if account.leave(left.number)? {
+    if account.leave(left.about.number)? {
         Ok(None)
     } else {
         Ok(Some(Reason::RecordTwice))

@@ -2,11 +2,11 @@
 
 ghost use Rattle.std.specs.Prelude.{◌≡◌, ◌↔◌, IsTrue, option_copied};
 ghost use Rattle.rad_packet.specs.Packet.{IsPacketText};
-ghost use Rattle.rad_audit.specs.Taking.{HasItsWords, words_of as the_words, words_of_left as the_words_left};
+ghost use Rattle.rad_audit.specs.Taking.{HasItsWords, words_of as the_words};
 
 use crate::facts::{ACCT_STATUS_TYPE, USER_NAME, number_at, value_at};
 use rad_lane::session_of;
-use rad_ledger::{Entry, Left, whole_packet};
+use rad_ledger::{LineRequest, whole_packet};
 use rad_realms::realm_of_packet;
 
 /// What a line says of a record besides its packets.
@@ -23,27 +23,15 @@ pub struct LineWords<'a> {
 }
 
 impl<'a> LineWords<'a> {
-    /// Returns the words of an entry.
-    pub fn of_entry(entry: &Entry<'a>) -> LineWords<'a>
-        ensures { result ≡ the_words entry.now }
+    /// Returns the words of the request that a line is about.
+    pub fn of(about: &LineRequest<'a>) -> LineWords<'a>
+        ensures { result ≡ the_words about.now }
     {
         LineWords {
-            realm: entry.realm,
-            session: entry.session,
-            user: entry.user,
-            status: entry.status,
-        }
-    }
-
-    /// Returns the words of a request that was left.
-    pub fn of_left(left: &Left<'a>) -> LineWords<'a>
-        ensures { result ≡ the_words_left left.now }
-    {
-        LineWords {
-            realm: left.realm,
-            session: left.session,
-            user: left.user,
-            status: left.status,
+            realm: about.realm,
+            session: about.session,
+            user: about.user,
+            status: about.status,
         }
     }
 }
@@ -61,7 +49,6 @@ pub fn are_words_of(packet: &[u8], words: LineWords<'_>) -> bool
         && words.status == number_at(&packet, ACCT_STATUS_TYPE)
 }
 
-/// Whether two words are the same, or both are none.
 fn is_same(word: Option<&[u8]>, other: Option<&[u8]>) -> bool
     ensures { IsTrue result ↔ (option_copied word.entry ≡ option_copied other.entry) }
 {

@@ -40,10 +40,7 @@ pub struct Words<'a> {
 ///
 /// `Usage` for words of any other form, `Memory` if a growth is refused.
 pub fn read_words(alloc: Global, words: &[String]) -> Result<Wanted<'_>, Fault> {
-    let Ok(command) = command(alloc) else {
-        return Err(Fault::Memory);
-    };
-    let matches = match command.try_get_matches_from(words) {
+    let matches = match command(alloc)?.try_get_matches_from(words) {
         Ok(matches) => matches,
         Err(error) => {
             return match error.kind() {
@@ -53,51 +50,39 @@ pub fn read_words(alloc: Global, words: &[String]) -> Result<Wanted<'_>, Fault> 
             };
         }
     };
-    match words_of(alloc, &matches) {
-        Ok(words) => Ok(Wanted::Audit(words)),
-        Err(fault) => Err(fault),
-    }
+    Ok(Wanted::Audit(words_of(alloc, &matches)?))
 }
 
-/// Returns the files that the matched words name.
 fn words_of<'a>(alloc: Global, matches: &ArgMatches<'a>) -> Result<Words<'a>, Fault> {
     let (Some(config), Some(files)) = (matches.get_str("CONFIG"), matches.get_strs("FILE")) else {
         return Err(Fault::Usage);
     };
-    let rows = matches.get_flag("rows");
     let asked = Asked {
         from: matches.get_flag("from"),
         partial: matches.get_flag("partial"),
         all: matches.get_flag("all"),
     };
     let sums = sums_of(alloc, matches.get_strs("sum").unwrap_or(&[]))?;
-    match files.to_vec(alloc) {
-        Ok(files) => Ok(Words {
-            rows,
-            asked,
-            sums,
-            config,
-            files,
-        }),
-        Err(_) => Err(Fault::Memory),
-    }
+    Ok(Words {
+        rows: matches.get_flag("rows"),
+        asked,
+        sums,
+        config,
+        files: files.to_vec(alloc)?,
+    })
 }
 
-/// Returns the sums that these words name.
 fn sums_of<'a>(alloc: Global, words: &[&'a str]) -> Result<KeptSums<'a>, Fault> {
     let mut sums = KeptSums::new(alloc);
     for word in words {
         let Some(sum) = KeptSum::read(word) else {
             return Err(Fault::Usage);
         };
-        if sums.add(sum).is_err() {
-            return Err(Fault::Memory);
-        }
+        sums.add(sum)?;
     }
     Ok(sums)
 }
 
-/// Returns the words that the program takes.
 fn command<'a>(alloc: Global) -> Result<Command<'a>, AllocError> {
     let command = Command::new(alloc, "rad_audit")
         .version(VERSION)
@@ -115,7 +100,6 @@ fn command<'a>(alloc: Global) -> Result<Command<'a>, AllocError> {
     command.arg(file_words(alloc))
 }
 
-/// Returns the word `--` and this name, which takes no value.
 fn flag<'a>(alloc: Global, name: &'a str, help: &'a str) -> Arg<'a> {
     Arg::new(alloc, name)
         .long(name)
@@ -123,7 +107,6 @@ fn flag<'a>(alloc: Global, name: &'a str, help: &'a str) -> Arg<'a> {
         .action(ArgAction::SetTrue)
 }
 
-/// Returns the word `--sum`, which may stand several times.
 fn sum_word<'a>(alloc: Global) -> Arg<'a> {
     Arg::new(alloc, "sum")
         .long("sum")
@@ -132,7 +115,6 @@ fn sum_word<'a>(alloc: Global) -> Arg<'a> {
         .action(ArgAction::Append)
 }
 
-/// Returns the word CONFIG, which is required.
 fn config_word<'a>(alloc: Global) -> Arg<'a> {
     Arg::new(alloc, "CONFIG")
         .help("The configuration that the proxy had")
@@ -140,7 +122,6 @@ fn config_word<'a>(alloc: Global) -> Arg<'a> {
         .action(ArgAction::Set)
 }
 
-/// Returns the words FILE, of which one is required.
 fn file_words<'a>(alloc: Global) -> Arg<'a> {
     Arg::new(alloc, "FILE")
         .help("The files of ledgers, in their order")

@@ -1,5 +1,5 @@
 -- The commands on the lines of standard input while the proxy runs (own).
-use Rattle.std.specs.Prelude.{◌≡◌, ◌≢◌, ℕ, Bool, true, false, List, [], ◌∷◌, ◌++◌, ◌⊎◌, ◌≤◌, take, length, codes, All, Option, None, Some, Result, Ok, Err, ⊤}
+use Rattle.std.specs.Prelude.{◌≡◌, ◌≢◌, ℕ, Bool, true, false, List, [], ◌∷◌, ◌++◌, ◌⊎◌, ◌≤◌, take, length, slice_get, codes, All, Option, None, Some, Result, Ok, Err, ⊤}
 use Rattle.std.specs.Io.KnownBytes.{Consumes, IsAtEnd}
 use Rattle.rad_console.specs.declared.commands.Command.{Command}
 use Rattle.rad_console.specs.declared.commands.Command.TheVariants.{State, Drain, Unknown}
@@ -13,6 +13,11 @@ Asks line Unknown = (line ≢ codes "state") × (line ≢ codes "drain")
 -- The octets have no line feed.
 abbrev pub HasNoFeed : List ℕ → Type 0
 HasNoFeed octets = All (λ octet. octet ≢ 10) octets
+
+-- The octet is at this place, and at none before it.
+pub record IsFirstAt (text : List ℕ) (wanted place : ℕ) : Type 0 where
+  pub there : slice_get text place ≡ Some wanted
+  pub before : All (λ octet. octet ≢ wanted) (take place text)
 
 -- What is kept of a line that has not ended: its first octets, at most 64.
 abbrev pub IsFront : List ℕ → Type 0

@@ -1,7 +1,5 @@
 pub mod Closing
 pub mod Commands
-pub mod Configurations
 pub mod Lanes
 pub mod Lines
-pub mod Pieces
 pub mod Totals

@@ -1,6 +1,7 @@
 -- The lines about the whole proxy, without their line feeds (own).
-use Rattle.std.specs.Prelude.{ℕ, List, ◌++◌, codes, Option, Some, None}
+use Rattle.std.specs.Prelude.{ℕ, List, ◌++◌, length, codes, Option, Some, None}
 use Rattle.std.specs.Fmt.{decimal}
+use Rattle.rad_realms.specs.Configuration.{Configuration}
 use Rattle.rad_realms.specs.Printed.{endpoint_text}
 use Rattle.rad_console.specs.declared.lines.CountLine.{CountLine}
 use Rattle.rad_console.specs.declared.lines.EndLine.{EndLine}
@@ -15,6 +16,10 @@ abbrev pub end_line : EndLine → List ℕ
 end_line line =
     (codes "end: queued " ++ decimal line.queued ++ codes " outstanding " ++ decimal line.outstanding ++ codes " ")
     ++ untaken_text line.untaken
+
+-- How many clients, home servers and realms a configuration has.
+abbrev pub counts_of : Configuration → CountLine
+counts_of config = record { clients = length config.clients; homes = length config.homes; realms = length config.realms }
 
 abbrev pub count_line : CountLine → List ℕ
 count_line line =

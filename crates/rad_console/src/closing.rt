@@ -69,7 +69,6 @@ fn end_of(report: &Report) -> EndLine
     }
 }
 
-/// Returns how many requests are outstanding.
 fn count_outstanding(ends: &[LaneEnd]) -> usize
     ensures { result ≡ count_in_all outstanding_at ends.now }
 {
@@ -80,7 +79,6 @@ fn count_outstanding(ends: &[LaneEnd]) -> usize
     count
 }
 
-/// Returns how many responses were not taken, if that is known of each lane.
 fn count_untaken(ends: &[LaneEnd]) -> Option<usize>
     ensures { CountsUntaken ends.now result }
 {
@@ -91,7 +89,6 @@ fn count_untaken(ends: &[LaneEnd]) -> Option<usize>
     Some(count)
 }
 
-/// Returns how many responses of a lane were not taken, if that is known.
 fn count_rest(rest: &Rest) -> Option<usize>
     ensures { MatchOption result (¬ IsKnown rest.now) (λ n. IsKnown rest.now × (n ≡ known_count rest.now)) }
 {

@@ -1,10 +1,9 @@
 //! The commands on standard input while the proxy runs, one a line.
 
-ghost use Rattle.std.specs.Prelude.{◌≡◌, ◌≢◌, ◌≤◌, [], ◌++◌, ◌↔◌, length, take, drop, true, false, IfOk, OnErr, MatchOption, IsTrue};
+ghost use Rattle.std.specs.Prelude.{◌≡◌, ◌≢◌, ◌≤◌, [], ◌++◌, ◌↔◌, All, length, take, drop, true, false, IfOk, OnErr, MatchOption, IsTrue};
 ghost use Rattle.std.specs.Io.KnownBytes.{Keeps, prepend_known};
-ghost use Rattle.rad_console.specs.Commands.{Asks, EndsLine, HasNoFeed, IsFront, ReadsNext, ReadsMore};
+ghost use Rattle.rad_console.specs.Commands.{Asks, EndsLine, HasNoFeed, IsFirstAt, IsFront, ReadsNext, ReadsMore};
 
-use crate::pieces::find_first;
 use std::io::{Error, ErrorKind, Read, Result};
 use std::marker::Model;
 
@@ -229,4 +228,11 @@ impl<R: Read + Drop> Commands<R> {
         }
         Some(self.line.end())
     }
+}
+
+/// Returns the place of the first octet of a text that equals `wanted`, if there is one.
+pub fn find_first(text: &[u8], wanted: u8) -> Option<usize>
+    ensures { MatchOption result (All (λ octet. octet ≢ wanted) text.now) (λ place. IsFirstAt text.now wanted place) }
+{
+    text.iter().position(|octet| *octet == wanted)
 }

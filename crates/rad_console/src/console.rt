@@ -26,7 +26,6 @@ pub fn obey<R: Wait, W: Write>(
     }
 }
 
-/// Writes the status of each lane.
 fn write_states<R: Wait, W: Write>(
     rt: &R,
     config: &Config,

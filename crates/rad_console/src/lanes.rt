@@ -31,7 +31,6 @@ struct CountsText<'a>(&'a Counts);
 #[derive(Clone, Copy)]
 struct SentCountsText<'a>(&'a Counts);
 
-/// Returns whether a home server is marked up or down, as it is printed.
 fn watch_name(up: bool) -> &'static str
     ensures { result.now ≡ the_watch_name up }
 {

@@ -1,5 +1,4 @@
-//! What the commands `run` and `replay` share: configurations read from octets, the console, and the line of what is
-//! left at the end.
+//! What the commands `run` and `replay` share: the console, and the line of what is left at the end.
 //!
 //! [`Commands`] reads the commands of standard input. [`obey`] executes a command and writes its result; it also
 //! executes an event of a script that is a command. The layer above uses the contract of [`close`]: the [`EndLine`] has
@@ -7,24 +6,17 @@
 //! each request that is left too.
 //!
 //! The definitions that the contracts cite are in specs: `Closing` is what an end line has, `Commands` which command a
-//! line is, `Configurations` which octets are a configuration, `Pieces` how a text is cut, and `Lanes` and `Lines` how
-//! the lines are printed.
+//! line is, and `Lanes` and `Lines` how the lines are printed.
 #![tactic(auto)]
 
-mod bounded;
 mod closing;
 mod commands;
-mod configuration;
 mod console;
 mod lanes;
 mod lines;
-mod pieces;
 
-pub use bounded::read_at_most;
 pub use closing::{close, close_with};
-pub use commands::{Command, Commands};
-pub use configuration::read_configuration;
+pub use commands::{Command, Commands, find_first};
 pub use console::obey;
 pub use lanes::{DrainLine, StateLine};
 pub use lines::{CountLine, EndLine, ListeningLine};
-pub use pieces::Pieces;

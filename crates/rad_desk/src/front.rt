@@ -9,7 +9,6 @@ ghost use Rattle.rad_desk.specs.Keeping.{Keeps};
 
 use crate::gate::{Call, Gate, Repeat, Worker, WorkerReport};
 use crate::handling::{Handled, handle};
-use crate::leaving::number_in_mark;
 use crate::ledger::{Ledger, NoLedger};
 use crate::marks::count_marks;
 use crate::shift::{Arrival, Buffers, Shift};
@@ -276,7 +275,7 @@ fn take<R, W: Wire, L: Ledger, G: Gate>(
     shift.report(&WorkerReport::Took {
         lane: inlet.lane(),
         serial: outgoing.serial,
-        number: number_in_mark(outgoing.reply.sending()),
+        number: outgoing.reply.mark().number,
         client: to,
         sent: outgoing.reply.sending(),
     });

@@ -7,19 +7,11 @@ ghost use Rattle.rad_desk.specs.Leaving.{age_at, as_left, left_with, number_sent
 
 use crate::ledger::Ledger;
 use block_queue::Fifo;
-use rad_auth::{MARK_LENGTH, Reply};
+use rad_auth::{ACCOUNTING_REQUEST, MARK_LENGTH, Reply};
 use rad_lane::{Entry, Outgoing, Record, Sending};
 use rad_locks::{LaneEnd, RecordQueue, Report, Rest};
+use rad_packet::{GREATEST_LENGTH, HEADER_LENGTH};
 use rad_tables::{Moment, Slot, Slots};
-
-/// The Code of an Accounting-Request (RFC 2866 section 3).
-const ACCOUNTING_REQUEST: u8 = 4;
-
-/// The octets of a packet before its attributes (RFC 2866 section 3).
-const HEADER_LENGTH: usize = 20;
-
-/// The greatest Length of a packet (RFC 2865 section 3).
-const GREATEST_LENGTH: usize = 4096;
 
 /// How many source ports a lane may have.
 const PORTS: u16 = 4;
@@ -282,7 +274,7 @@ fn age_of_number(end: &LaneEnd, number: u64, now: Moment) -> Option<u64>
 }
 
 /// Returns the number of the request in the mark of a packet that was sent: its last eight octets.
-pub(crate) fn number_in_mark(sending: &[u8]) -> u64
+fn number_in_mark(sending: &[u8]) -> u64
     ensures { result ≡ number_sent sending.now }
 {
     if sending.len() < 8 {

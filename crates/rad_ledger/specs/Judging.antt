@@ -12,10 +12,10 @@ use Rattle.rad_ledger.specs.declared.reason.Reason.TheVariants.{NotEntry, NoPack
 
 -- The head of the request, and the mark that it went out with.
 abbrev pub head_of : Entry → RequestHead
-head_of e = record { identifier = e.identifier; authenticator = e.authenticator }
+head_of e = record { identifier = e.about.identifier; authenticator = e.about.authenticator }
 
 abbrev pub mark_of : Entry → Mark
-mark_of e = record { lane = e.lane; number = e.number }
+mark_of e = record { lane = e.about.lane; number = e.about.number }
 
 -- What went to the home server, what came, and what went to the client are packets, whole and without padding.
 pub record ArePackets (e : Entry) : Type 0 where

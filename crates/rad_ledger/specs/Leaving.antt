@@ -10,8 +10,8 @@ use Rattle.rad_ledger.specs.declared.reason.Reason.TheVariants.{NotEntry, NoPack
 -- known.
 pub record HasRequest (left : Left) (client : Option (List ℕ)) : Type 0 where
   pub code : code_of left.request.now ≡ 4
-  pub identifier : identifier_of left.request.now ≡ left.identifier
-  pub authenticator : authenticator_of left.request.now ≡ left.authenticator
+  pub identifier : identifier_of left.request.now ≡ left.about.identifier
+  pub authenticator : authenticator_of left.request.now ≡ left.about.authenticator
   pub right : IfSome client (λ secret. IsRightRequest secret left.request.now)
 
 -- Nothing is wrong with it: its run names its lane, and no other line has its number.

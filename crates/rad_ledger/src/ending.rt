@@ -64,7 +64,6 @@ impl Ending {
     }
 }
 
-/// Whether an end line says something else than another one did.
 fn differs(said: Option<EndCounts>, counts: EndCounts) -> bool
     ensures { IsTrue result ↔ Differs said counts }
 {

@@ -79,23 +79,21 @@ fn judge_packets(
     )
 }
 
-/// Returns the mark that an entry's request was sent with.
 fn mark_of(entry: &Entry<'_>) -> Mark
     ensures { result ≡ the_mark_of entry.now }
 {
     Mark {
-        lane: entry.lane,
-        number: entry.number,
+        lane: entry.about.lane,
+        number: entry.about.number,
     }
 }
 
-/// Returns the head of an entry's request.
 fn head_of(entry: &Entry<'_>) -> RequestHead
     ensures { result ≡ the_head_of entry.now }
 {
     RequestHead {
-        identifier: entry.identifier,
-        authenticator: entry.authenticator,
+        identifier: entry.about.identifier,
+        authenticator: entry.about.authenticator,
     }
 }
 

@@ -42,12 +42,11 @@ fn is_request(left: &Left<'_>, request: &PacketRef<'_>, client: Option<&Secret>)
     ensures { IsTrue result ↔ HasRequest left.now (option_copied client.entry) }
 {
     request.code() == ACCOUNTING_REQUEST
-        && request.identifier() == left.identifier
-        && request.authenticator() == left.authenticator
+        && request.identifier() == left.about.identifier
+        && request.authenticator() == left.about.authenticator
         && is_right(request, client)
 }
 
-/// Whether a packet is right under the client's secret, if that is known.
 fn is_right(request: &PacketRef<'_>, client: Option<&Secret>) -> bool
     ensures { IsTrue result ↔ IfSome (option_copied client.entry) (λ secret. IsRightRequest secret request.now) }
 {

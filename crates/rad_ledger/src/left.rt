@@ -1,46 +1,12 @@
 //! A request that was left when a run ended.
 
-/// How a request was left.
-#[derive(Clone, Copy, Debug, PartialEq, Eq)]
-pub enum LeftState {
-    /// It was in the queue of its lane: it was never sent to the home server.
-    Queued,
-    /// It was sent to the home server, which did not answer it.
-    Outstanding,
-    /// It was answered, and its response was not sent to the client.
-    Untaken,
-}
+use crate::line_request::LineRequest;
+use rad_desk::LeftState;
 
-/// A request that was accepted and whose client has no response of it. It borrows from the line that it was read from, or
-/// from what is to be written.
+/// A request that was accepted and whose client has no response of it.
 #[derive(Clone, Copy)]
 pub struct Left<'a> {
-    /// The name of the run.
-    pub run: u64,
-    /// When the line was made: RFC 3339, in UTC, with milliseconds.
-    pub time: &'a str,
-    /// The home server's name in the configuration.
-    pub home: &'a str,
-    /// The number of its lane.
-    pub lane: u16,
-    /// The number of the request in its lane. In a line its key is `record`.
-    pub number: u64,
-    /// The client's IPv4 address.
-    pub client: [u8; 4],
-    /// The UDP port that the request came from.
-    pub port: u16,
-    /// The request's Identifier.
-    pub identifier: u8,
-    /// The request's Authenticator, as it came.
-    pub authenticator: [u8; 16],
-    /// The realm, if the request had one.
-    pub realm: Option<&'a [u8]>,
-    /// The Value of its Acct-Session-Id, if it had one.
-    pub session: Option<&'a [u8]>,
-    /// The number in its Acct-Status-Type, if it had one.
-    pub status: Option<u32>,
-    /// The Value of its User-Name, if it had one.
-    pub user: Option<&'a [u8]>,
+    pub about: LineRequest<'a>,
     /// How it was left.
     pub state: LeftState,
     /// How often it was sent to the home server, if that is known.

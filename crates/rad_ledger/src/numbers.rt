@@ -77,7 +77,6 @@ impl Numbers {
     }
 }
 
-/// Returns the place of a number among edges, or the one that it would have.
 fn place_of(edges: &[u64], number: u64) -> Result<usize, usize>
     requires { IsRising edges.now }
     ensures { IsPlace edges.now number result }
@@ -85,7 +84,6 @@ fn place_of(edges: &[u64], number: u64) -> Result<usize, usize>
     edges.binary_search(&number)
 }
 
-/// Whether a number is in the set of these edges.
 fn is_within(edges: &[u64], number: u64) -> bool
     requires { IsRising edges.now }
     ensures { result ≡ is_in edges.now number }

@@ -34,7 +34,6 @@ pub fn ends_with_mark(packet: &PacketRef<'_>, mark: Mark) -> bool
     }
 }
 
-/// Returns the last attribute of a packet, if it has any.
 fn last_attribute<'a>(packet: &PacketRef<'a>) -> Option<AttributeRef<'a>>
     ensures { MatchOption result (packet_attributes packet.now ≡ []) (λ a. (before : List Attribute) × (packet_attributes packet.now ≡ before ++ attribute_at a ∷ [])) }
 {
@@ -45,7 +44,6 @@ fn last_attribute<'a>(packet: &PacketRef<'a>) -> Option<AttributeRef<'a>>
     last
 }
 
-/// Whether an attribute is this mark.
 #[tactic(auto, using(crate::proofs::Marks::mark_by, crate::proofs::Marks::kind_of_mark, crate::proofs::Marks::value_of_mark))]
 fn is_mark(attribute: AttributeRef<'_>, mark: Mark) -> bool
     ensures { IsTrue result ↔ (attribute_at attribute.entry ≡ mark_attribute mark) }
@@ -53,7 +51,6 @@ fn is_mark(attribute: AttributeRef<'_>, mark: Mark) -> bool
     attribute.kind == PROXY_STATE && is_mark_value(attribute.value, mark)
 }
 
-/// Whether these octets are the Value of this mark.
 #[tactic(auto, using(crate::proofs::Marks::mark_value_by, crate::proofs::Marks::length_of_value, crate::proofs::Marks::lane_of_value, crate::proofs::Marks::number_of_value))]
 fn is_mark_value(value: &[u8], mark: Mark) -> bool
     ensures { IsTrue result ↔ (value.now ≡ mark_value mark) }
@@ -65,7 +62,6 @@ fn is_mark_value(value: &[u8], mark: Mark) -> bool
     is_same(lane, &mark.lane.to_be_bytes()) && is_same(number, &mark.number.to_be_bytes())
 }
 
-/// Whether octets are the same as others.
 fn is_same(octets: &[u8], others: &[u8]) -> bool
     ensures { IsTrue result ↔ (octets.now ≡ others.now) }
 {

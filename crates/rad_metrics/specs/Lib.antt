@@ -6,5 +6,3 @@ pub mod Samples
 pub mod Times
 pub mod Events
 pub mod Metrics
-pub mod LedgerFaults
-pub mod LedgerLines

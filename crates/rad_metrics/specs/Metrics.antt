@@ -15,7 +15,7 @@ use Rattle.rad_metrics.specs.declared.socket_numbers.SocketMetric.{SocketMetric}
 use Rattle.rad_metrics.specs.declared.socket_numbers.SocketMetric.TheVariants as socket
 use Rattle.rad_metrics.specs.declared.home_metric.Reading.{Reading}
 use Rattle.rad_metrics.specs.declared.socket_numbers.SocketReading.{SocketReading}
-use Rattle.rad_metrics.specs.declared.ledger_metrics.LedgerReading.{LedgerReading}
+use Rattle.ledger_state.specs.declared.state.LedgerReading.{LedgerReading}
 use Rattle.rad_metrics.specs.declared.ledger_metrics.LedgerMetric.{LedgerMetric}
 use Rattle.rad_metrics.specs.declared.ledger_metrics.LedgerMetric.TheVariants as ledger
 use Rattle.rad_metrics.specs.declared.program_metrics.ProgramMetric.{ProgramMetric}

@@ -40,10 +40,8 @@ pub enum Counted {
     WentUp,
 }
 
-/// What a retransmitted request repeats.
 const REPEATS: &[Repeat] = &[Repeat::Waiting, Repeat::Answered];
 
-/// Why a home server is marked up.
 const UP_REASONS: &[UpReason] = &[
     UpReason::Answered,
     UpReason::ProbeAnswered,
@@ -136,7 +134,6 @@ impl Counted {
     }
 }
 
-/// Returns the reason at a place among those for which a datagram at a home server's sockets is dropped.
 fn unheard_at(place: usize) -> Option<Reason>
     ensures { IfSome result (λ reason. reason_place reason ≡ place) }
 {

@@ -13,9 +13,7 @@ pub(crate) const APART: usize = 16;
 /// A word for each event, in a row for each worker and each client. All are 0 at first.
 #[derive(Drop)]
 pub struct Counts {
-    /// The rows of the workers.
     workers: Vec<AtomicU64>,
-    /// The rows of the clients.
     clients: Vec<AtomicU64>,
     /// The place of the first word of each metric in a row, in the order of [`Counted`].
     firsts: Vec<usize>,

@@ -1,12 +1,12 @@
 //! The text of the metrics while it is made.
 
 use crate::home_metric::Reading;
-use crate::ledger_metrics::LedgerReading;
 use crate::numbers::Numbers;
 use crate::own_process::{ProcessReading, read_process};
 use crate::socket_numbers::{SocketReading, UDP_TABLE};
 use crate::system_files::{SystemFiles, text_of};
 use crate::writing::{Known, write_metrics};
+use ledger_state::LedgerReading;
 use rad_realms::Config;
 use std::alloc::{AllocError, Global};
 use std::io;

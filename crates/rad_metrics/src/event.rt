@@ -8,6 +8,36 @@ use crate::reason::Reason;
 use rad_desk::{Worker, WorkerReport as Report};
 use rad_realms::{Dropped, Endpoint};
 
+/// A report of a worker, and as what it is counted.
+#[derive(Clone, Copy)]
+pub struct Classified<'a> {
+    pub worker: Worker,
+    pub report: &'a Report<'a>,
+    /// The row of the worker or lane that it is about.
+    pub row: usize,
+    /// The event as which it is counted for that worker or lane.
+    pub event: Option<Event>,
+    /// The address and port of the other end of what is reported.
+    pub peer: Option<Endpoint>,
+}
+
+impl<'a> Classified<'a> {
+    /// Classifies a report of a worker.
+    pub fn of(worker: Worker, report: &'a Report<'a>) -> Classified<'a>
+        ensures row { result.row ≡ row_of worker report.now }
+        ensures event { result.event ≡ event_of report.now }
+        ensures peer { result.peer ≡ peer_of report.now }
+    {
+        Classified {
+            worker,
+            report,
+            row: row_of_report(worker, report),
+            event: Event::of(report),
+            peer: peer_of_report(report),
+        }
+    }
+}
+
 /// An event that is counted: the metric that counts it, and the reason by which it differs from others there.
 #[derive(Clone, Copy)]
 pub struct Event {
@@ -24,8 +54,7 @@ impl Event {
         Event { metric, reason }
     }
 
-    /// Returns the event as which a report is counted for a worker.
-    pub fn of(report: &Report<'_>) -> Option<Event>
+    fn of(report: &Report<'_>) -> Option<Event>
         ensures { result ≡ event_of report.now }
     {
         let (metric, reason) = match *report {
@@ -47,7 +76,7 @@ impl Event {
 
     /// Returns the event as which a report of the front is counted for the client that it is about. A datagram that is
     /// dropped since it came from no client is counted for none.
-    pub fn of_client(report: &Report<'_>) -> Option<Event>
+    pub(crate) fn of_client(report: &Report<'_>) -> Option<Event>
         ensures { result ≡ client_event_of report.now }
     {
         let (metric, reason) = match *report {
@@ -67,7 +96,6 @@ impl Event {
     }
 }
 
-/// Returns the metric that counts a datagram to a home server, by its Code.
 fn sent_as(code: Option<u8>) -> Option<Counted>
     ensures { result ≡ sent_metric code }
 {
@@ -78,8 +106,7 @@ fn sent_as(code: Option<u8>) -> Option<Counted>
     }
 }
 
-/// Returns the address and port of the other end of what is reported, if the report has them.
-pub fn report_peer(report: &Report<'_>) -> Option<Endpoint>
+fn peer_of_report(report: &Report<'_>) -> Option<Endpoint>
     ensures { result ≡ peer_of report.now }
 {
     match *report {
@@ -95,9 +122,7 @@ pub fn report_peer(report: &Report<'_>) -> Option<Endpoint>
     }
 }
 
-/// Returns the row of the worker or lane that a report is about: the worker's, or that of the lane that the front accepted
-/// a request for, took a response from, or has a marked request for.
-pub fn report_row(worker: Worker, report: &Report<'_>) -> usize
+fn row_of_report(worker: Worker, report: &Report<'_>) -> usize
     ensures { result ≡ row_of worker report.now }
 {
     match *report {

@@ -23,11 +23,9 @@ pub struct Family {
     pub help: &'static str,
 }
 
-/// The first line of a family: its help text.
 #[derive(Clone, Copy)]
 struct HelpLine(Family);
 
-/// The second line of a family: its kind.
 #[derive(Clone, Copy)]
 struct TypeLine(Family);
 

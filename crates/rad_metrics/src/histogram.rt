@@ -13,7 +13,6 @@ pub(crate) const BUCKETS: usize = 18;
 /// How often something took how long. Counting takes no lock and no memory.
 #[derive(Drop)]
 pub(crate) struct Histogram {
-    /// How many are in each bucket.
     counts: Vec<AtomicU64>,
     /// The sum of all durations, in microseconds.
     sum: AtomicU64,

@@ -24,7 +24,6 @@ pub(crate) struct HomeCell {
     down: DownTime,
     /// One more than when it last answered, in milliseconds since the start; 0 before its first answer.
     last_answer: AtomicU64,
-    /// The limits of its lane.
     limits: LimitNumbers,
     /// The times of its requests.
     pub(crate) times: HomeTimes,
@@ -149,8 +148,6 @@ impl DownTime {
     }
 }
 
-/// Returns how long a home server was marked down until `now`, in microseconds: `before`, and from `since` on, unless that
-/// is 0.
 fn down_until(before: u64, since: u64, now: u64) -> u64
     ensures { result ≡ (if since == 0 then before else min (before + (now - since)) (2 ^ 64 - 1)) }
 {
@@ -175,8 +172,6 @@ pub(crate) fn is_of_home(report: &WorkerReport<'_>) -> bool {
     )
 }
 
-/// Returns a reading whose times are in milliseconds since 1970, of one whose times are in milliseconds since the start,
-/// which was at this time. That of the last answer is one more there, and 0 if there is none.
 fn since_1970(read: Reading, started: u64) -> Reading
     ensures { IsSince1970 read started result }
 {
@@ -205,7 +200,6 @@ pub(crate) fn home_cells(alloc: Global, homes: &[Home]) -> Result<Vec<HomeCell>,
     Ok(cells)
 }
 
-/// Returns the reading before a worker reported anything.
 fn first_reading(limits: LimitNumbers) -> Reading {
     Reading {
         limits,

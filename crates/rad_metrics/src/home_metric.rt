@@ -130,7 +130,6 @@ impl HomeMetric {
     }
 }
 
-/// Returns how many of the sendings were not the first of their request.
 fn resent_of(reading: &Reading) -> u64
     ensures { result ≡ resent reading.now }
 {
@@ -139,7 +138,6 @@ fn resent_of(reading: &Reading) -> u64
     reading.sent.saturating_sub(first)
 }
 
-/// Returns how many milliseconds lie between `first` and a moment; 0 if there is no `first`.
 fn age_of(first: Option<Moment>, moment: Moment) -> u64
     ensures { result ≡ age_at first moment }
 {

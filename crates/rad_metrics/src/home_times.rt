@@ -55,9 +55,7 @@ pub(crate) struct HomeTimes {
     /// For each serial that may be on its way to the client, at the remainder of its division by the length: what was
     /// first reported of it.
     leaving: Vec<AtomicU64>,
-    /// The times from the first sending to the reply.
     replies: Histogram,
-    /// The times from the acceptance to the response.
     responses: Histogram,
 }
 
@@ -181,21 +179,18 @@ fn store(places: &[AtomicU64], slot: Slot, time: u64) {
     }
 }
 
-/// Returns the index of a pair among all pairs of its lane.
 fn place_in(slot: Slot) -> usize
     ensures { result ≡ slot.port * 256 + slot.identifier }
 {
     usize::from(slot.port) * 256 + usize::from(slot.identifier)
 }
 
-/// Returns the word of a number and a time in microseconds.
 fn word_of(number: u64, time: u64) -> u64
     ensures { result ≡ number % 2 ^ 24 * 2 ^ 40 + time % 2 ^ 40 }
 {
     number % NUMBERS * TIMES + time % TIMES
 }
 
-/// Returns the time of a word, if the word has this number.
 fn time_in(word: u64, number: u64) -> Option<u64>
     ensures { result ≡ (if word / 2 ^ 40 == number % 2 ^ 24 then Some (word % 2 ^ 40) else None) }
 {

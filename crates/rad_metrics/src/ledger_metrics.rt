@@ -8,28 +8,9 @@ ghost use Rattle.rad_metrics.specs.Metrics.{ledger_client_family, ledger_family,
 use crate::family::{Family, Kind, families};
 use crate::sample::{Labels, Sample};
 use crate::value::Value;
+use ledger_state::LedgerReading;
 use std::fmt;
 use std::io::{self, Write};
-use std::sync::atomic::AtomicU64;
-
-/// What is known of a ledger at one moment.
-#[derive(Clone, Copy)]
-pub struct LedgerReading<'a> {
-    /// How many entries were written.
-    pub written: u64,
-    /// How many entries wait to be written.
-    pub waiting: u64,
-    /// How many entries were dropped, since too many waited.
-    pub dropped: u64,
-    /// How many entries were written to a file that was gone while it was open.
-    pub lost: u64,
-    /// How many milliseconds ago the oldest entry was handed over that waits.
-    pub age: u64,
-    /// How many milliseconds ago the oldest octet was written that is not synced.
-    pub unsynced: u64,
-    /// How many entries of each client were dropped, in the order of the configuration.
-    pub client_dropped: &'a [AtomicU64],
-}
 
 /// A metric of the ledger.
 #[derive(Clone, Copy)]

@@ -3,7 +3,8 @@
 //!
 //! [`Numbers`] keeps what the workers report. The metrics of one home server are taken under one hold of its lane's
 //! lock, by the lane's worker, when it is asked for them. All labels come from the configuration, from the program and
-//! from its sockets, whoever sends. [`LedgerState`] keeps what the thread that writes the ledger reports, and logs it.
+//! from its sockets, whoever sends. What is counted of the ledger is
+//! in `ledger_state`.
 //!
 //! What is counted is an [`Event`]: the metric that counts it, [`Counted`], and a [`Reason`], whose place and name are
 //! those of the enum of reasons that it has. A new reason is added there alone.
@@ -13,8 +14,7 @@
 //! program and of the ledger have. No contract covers what is behind a lock or in an atomic, such as a count: tests check
 //! it. The definitions are in `specs`: `Metrics` has the name, the kind and the help text of each metric, `Families`,
 //! `Samples` and `Values` how they are printed, `Reasons` the places and names of reasons, `Events` which events are
-//! counted, `LedgerFaults` the reasons for which the ledger is not written, `LedgerLines` its log lines, and `Buckets`
-//! the bounds of a histogram.
+//! counted, and `Buckets` the bounds of a histogram.
 #![tactic(auto)]
 
 mod counted;
@@ -22,15 +22,11 @@ mod counts;
 mod draft;
 mod event;
 mod family;
-mod file_sums;
 mod histogram;
 mod home_cells;
 mod home_metric;
 mod home_times;
-mod lane_serials;
-mod ledger_fault;
 mod ledger_metrics;
-mod ledger_state;
 mod metric;
 mod numbers;
 mod own_process;
@@ -46,13 +42,10 @@ mod writing;
 pub use counted::Counted;
 pub use counts::Counts;
 pub use draft::Draft;
-pub use event::{Event, report_peer, report_row, worker_row};
+pub use event::{Classified, Event, worker_row};
 pub use family::{Family, Kind};
-pub use file_sums::FileSum;
 pub use home_metric::{HomeMetric, Reading};
-pub use ledger_fault::{LedgerFault, system_number};
-pub use ledger_metrics::{LedgerMetric, LedgerReading, ledger_client_family};
-pub use ledger_state::{LedgerState, log_ledger_fault};
+pub use ledger_metrics::{LedgerMetric, ledger_client_family};
 pub use numbers::{Numbers, time_since_1970};
 pub use own_process::ProcessReading;
 pub use program_metrics::{ProgramMetric, ProgramReading, VERSION};

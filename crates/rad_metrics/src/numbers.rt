@@ -4,7 +4,7 @@ ghost use Rattle.rad_metrics.specs.Times.{IsStartBy};
 
 use crate::counted::Counted;
 use crate::counts::{APART, Counts, atomics, word_or_0};
-use crate::event::{Event, report_peer, report_row, worker_row};
+use crate::event::{Classified, Event, worker_row};
 use crate::home_cells::{HomeCell, home_cells, is_of_home};
 use crate::own_process::ProcessReading;
 use crate::program_metrics::ProgramReading;
@@ -32,7 +32,6 @@ pub struct Numbers<'a, R> {
     started: u64,
     /// The same by what the clock of the day shows now, if that was set since.
     set: AtomicU64,
-    /// The row of each client's address.
     clients: BTreeMap<[u8; 4], usize>,
     counts: Counts,
     /// The number of datagrams that came from senders that are not clients.
@@ -77,11 +76,11 @@ impl<'a, R: Clock> Numbers<'a, R> {
     }
 
     /// Records what a worker reports.
-    pub fn report(&self, worker: Worker, report: &WorkerReport<'_>) {
-        let row = report_row(worker, report);
-        self.count(row, report);
-        if worker == Worker::Front {
-            self.count_of_client(report);
+    pub fn report(&self, its: &Classified<'_>) {
+        let Classified { report, row, .. } = *its;
+        self.count(its);
+        if its.worker == Worker::Front {
+            self.count_of_client(its);
         }
         match *report {
             WorkerReport::Woke => self.begin_turn(row),
@@ -162,25 +161,23 @@ impl<R> Numbers<'_, R> {
         self.turn(worker_row(worker))
     }
 
-    /// Returns when the turn of the worker in a row began.
     fn turn(&self, row: usize) -> u64 {
         word_or_0(self.turn_word(row))
     }
 
-    /// Counts the event of a report of the worker or lane in a row.
-    fn count(&self, row: usize, report: &WorkerReport<'_>) {
-        if let Some(event) = Event::of(report) {
-            let times = match *report {
+    fn count(&self, its: &Classified<'_>) {
+        if let Some(event) = its.event {
+            let times = match *its.report {
                 WorkerReport::Cut(requests) => requests,
                 _ => 1,
             };
-            self.counts.add(row, event, times);
+            self.counts.add(its.row, event, times);
         }
     }
 
-    /// Counts the event of a report of the front, of the client that it is about.
-    fn count_of_client(&self, report: &WorkerReport<'_>) {
-        let (Some(event), Some(peer)) = (Event::of_client(report), report_peer(report)) else {
+    /// Counts the event of a report of the front for the client that it is about.
+    fn count_of_client(&self, its: &Classified<'_>) {
+        let (Some(event), Some(peer)) = (Event::of_client(its.report), its.peer) else {
             return;
         };
         if let Some(row) = self.clients.get(&peer.address) {
@@ -211,8 +208,6 @@ impl<R> Numbers<'_, R> {
     }
 }
 
-/// Returns when the program started by a clock that shows `now` after so long, all in milliseconds, if that is more than a
-/// second from `before`, when it started until now.
 fn set_start(before: u64, now: u64, passed: u64) -> u64
     ensures { IsStartBy before now passed result }
 {
@@ -224,11 +219,6 @@ fn set_start(before: u64, now: u64, passed: u64) -> u64
     }
 }
 
-/// Returns the row of each client's address.
-///
-/// # Errors
-///
-/// `AllocError` if memory is refused.
 fn rows_of(alloc: Global, config: &Config) -> Result<BTreeMap<[u8; 4], usize>, AllocError> {
     let mut rows = BTreeMap::new(alloc);
     for (row, client) in config.clients().iter().enumerate() {

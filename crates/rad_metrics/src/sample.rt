@@ -75,7 +75,6 @@ impl fmt::Display for Label<'_> {
     }
 }
 
-/// Returns the key of a reason's label.
 fn key_of(reason: Reason) -> &'static str
     ensures { result.now ≡ reason_key reason }
 {

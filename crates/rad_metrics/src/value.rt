@@ -16,11 +16,9 @@ pub enum Value {
     Microseconds(u64),
 }
 
-/// A time in milliseconds, printed in seconds with three decimals.
 #[derive(Clone, Copy)]
 struct Seconds(u64);
 
-/// A number below 1000, printed with three digits.
 #[derive(Clone, Copy)]
 struct Digits(u64);
 

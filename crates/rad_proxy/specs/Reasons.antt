@@ -3,6 +3,9 @@ use Rattle.std.specs.Prelude.{ℕ, List, ◌++◌, codes}
 use Rattle.std.specs.Fmt.{decimal}
 use Rattle.rad_proxy.specs.declared.reasons.FileReason.{FileReason}
 use Rattle.rad_proxy.specs.declared.reasons.FileReason.TheVariants.{Absent, Folder, TooLong, System}
+use Rattle.rad_proxy.specs.declared.reasons.MoreLine.{MoreLine}
+use Rattle.rad_proxy.specs.declared.reasons.Told.{Told}
+use Rattle.rad_proxy.specs.declared.reasons.Told.TheVariants.{UnreadKeys, Faults, Warnings}
 
 -- Why a file can't be read. After the last text the log line has the system's error.
 abbrev pub file_reason_text : FileReason → List ℕ
@@ -11,13 +14,11 @@ file_reason_text Folder = codes "it is a folder"
 file_reason_text TooLong = codes "it is longer than 1048576 octets"
 file_reason_text System = codes "it can't be read"
 
--- This number of keys is unread, besides those that are logged one by one.
-abbrev pub more_keys_line : ℕ → List ℕ
-more_keys_line count = codes "event=unread-keys count=" ++ decimal count
+-- This number is there, besides those that are logged one by one.
+abbrev pub more_text : Told → List ℕ
+more_text UnreadKeys = codes "event=unread-keys count="
+more_text Faults = codes "event=configuration-faults count="
+more_text Warnings = codes "event=configuration-warnings count="
 
--- The same of faults and of warnings.
-abbrev pub more_faults_line : ℕ → List ℕ
-more_faults_line count = codes "event=configuration-faults count=" ++ decimal count
-
-abbrev pub more_warnings_line : ℕ → List ℕ
-more_warnings_line count = codes "event=configuration-warnings count=" ++ decimal count
+abbrev pub more_line : MoreLine → List ℕ
+more_line line = more_text line.told ++ decimal line.count

@@ -1,7 +1,7 @@
 //! The command `check`, which counts what the configuration in a file has.
 
 ghost use Rattle.std.specs.Prelude.{◌≡◌, IfOk, None};
-ghost use Rattle.rad_console.specs.Configurations.{counts_of};
+ghost use Rattle.rad_console.specs.Lines.{counts_of};
 ghost use Rattle.rad_proxy.specs.Configurations.{IsCounted};
 
 use crate::faults::Fault;
@@ -43,7 +43,6 @@ pub fn check_text<R: Read + Drop, L: Log>(
     Ok(count_of(&config))
 }
 
-/// Returns how many clients, home servers and realms a configuration has.
 fn count_of(config: &Config) -> CountLine
     ensures { result ≡ counts_of config.now }
 {

@@ -60,7 +60,6 @@ where
     Ok(())
 }
 
-/// Returns whether nothing is open under this descriptor.
 fn is_closed(descriptor: RawFd) -> bool {
     let mut ends = [pollfd {
         fd: descriptor,
@@ -100,7 +99,6 @@ impl<I: Read + Drop> Read for WaitingInput<I> {
     }
 }
 
-/// Waits until standard input has something to read, or has ended.
 fn wait_for_input() {
     let mut ends = [pollfd {
         fd: STDIN_FILENO,

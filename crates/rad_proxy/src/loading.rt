@@ -8,7 +8,7 @@ use crate::file_name::FileName;
 use crate::machine::Host;
 use crate::reasons::{tell_doubts, tell_faults, tell_file, tell_homes, tell_text};
 use rad_addresses::read_local_addresses;
-use rad_console::{read_at_most, read_configuration};
+use rad_files::{read_at_most, read_configuration};
 use rad_log::Log;
 use rad_realms::Config;
 use std::alloc::Global;
@@ -58,18 +58,18 @@ pub fn load_text<R: Read + Drop, L: Log>(
 ) -> Result<Config, Fault>
     ensures { IfOk result (λ config. IsLoaded (R.remaining file) MOST_FILE_OCTETS config) }
 {
-    let text = match read_at_most(alloc, file, MOST_FILE_OCTETS) {
-        Ok(text) => text,
+    let octets = match read_at_most(alloc, file, MOST_FILE_OCTETS) {
+        Ok(octets) => octets,
         Err(error) => return Err(file_fault(alloc, log, path, &error)),
     };
-    tell_text(alloc, log, &text);
-    match read_configuration(alloc, text.as_slice()) {
+    let text = tell_text(alloc, log, octets.as_slice());
+    match read_configuration(alloc, octets.as_slice()) {
         Ok(config) => {
-            tell_doubts(alloc, log, &text, &config);
+            tell_doubts(alloc, log, text.as_ref(), &config);
             Ok(config)
         }
         Err(fault) => {
-            tell_faults(alloc, log, &text);
+            tell_faults(alloc, log, text.as_ref());
             Err(Fault::Configuration(fault))
         }
     }

@@ -1,7 +1,7 @@
 //! What the program needs of the system, and of the machine that it runs on.
 
 use rad_addresses::{LocalAddresses, read_local_addresses};
-use rad_console::read_at_most;
+use rad_files::read_at_most;
 use rad_metrics::{SystemFiles, count_own_descriptors, read_system_file};
 use rad_server::PortSettings;
 use rad_telemetry::{ReplaceFile, RuntimeFiles, TraceFault, TraceText, read_trace_text};

@@ -60,7 +60,6 @@ where
     Ok(if end.is_clean() { 0 } else { LEFT_OVER })
 }
 
-/// Returns what the words of the command line ask for.
 fn read_task<R: Env + AllocGlobal>(rt: &R, alloc: Global) -> Result<Task, Fault> {
     let words = read_arguments(rt)?;
     read_words(alloc, words.as_slice())

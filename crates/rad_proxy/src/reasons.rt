@@ -2,9 +2,7 @@
 
 ghost use Rattle.std.specs.Prelude.{◌≡◌, ◌≢◌};
 
-use rad_advice::{
-    UnreadKeys, Warnings, advise_homes, fault_reports, list_warnings, syntax_error, unread_keys,
-};
+use rad_advice::{ConfigText, TextFault, advise_homes, fault_reports, list_warnings, unread_keys};
 use rad_log::{Escaped, Log, tell_error, tell_reason, tell_warning, warn_of_reason};
 use rad_realms::Config;
 use std::alloc::Global;
@@ -79,19 +77,34 @@ impl Display for FileLine<'_> {
     }
 }
 
-/// The log line of the number of unread keys that are not logged one by one.
+/// What is listed in the log, each in a line of its own.
 #[derive(Clone, Copy)]
-struct MoreKeysLine(usize);
+enum Told {
+    UnreadKeys,
+    Faults,
+    Warnings,
+}
 
-impl Display for MoreKeysLine {
+/// The log line of how many are not listed.
+#[derive(Clone, Copy)]
+struct MoreLine {
+    told: Told,
+    count: usize,
+}
+
+impl Display for MoreLine {
     ghost use Rattle.std.specs.Prelude.{Some};
-    ghost use Rattle.rad_proxy.specs.Reasons.{more_keys_line};
+    ghost use Rattle.rad_proxy.specs.Reasons.{more_line};
 
-    ghost output = { λ line. Some (more_keys_line line.0) };
+    ghost output = { λ line. Some (more_line line) };
 
     fn fmt<W: fmt::Write>(&self, f: &mut fmt::Formatter<W>) -> fmt::Result {
-        let count = self.0;
-        write!(f, "event=unread-keys count={count}")
+        let count = self.count;
+        match self.told {
+            Told::UnreadKeys => write!(f, "event=unread-keys count={count}"),
+            Told::Faults => write!(f, "event=configuration-faults count={count}"),
+            Told::Warnings => write!(f, "event=configuration-warnings count={count}"),
+        }
     }
 }
 
@@ -100,88 +113,67 @@ pub fn tell_file<L: Log>(log: &L, path: &str, error: &Error) {
     tell_error(log, &FileLine { path, error });
 }
 
-/// The log line of the number of faults that are not logged one by one.
-#[derive(Clone, Copy)]
-struct MoreFaultsLine(usize);
-
-impl Display for MoreFaultsLine {
-    ghost use Rattle.std.specs.Prelude.{Some};
-    ghost use Rattle.rad_proxy.specs.Reasons.{more_faults_line};
-
-    ghost output = { λ line. Some (more_faults_line line.0) };
-
-    fn fmt<W: fmt::Write>(&self, f: &mut fmt::Formatter<W>) -> fmt::Result {
-        let count = self.0;
-        write!(f, "event=configuration-faults count={count}")
+/// Reads octets as the text of a configuration. Logs where they stop being TOML, or which keys are unread. If memory is
+/// refused, it logs nothing.
+pub fn tell_text<'t, L: Log>(alloc: Global, log: &L, octets: &'t [u8]) -> Option<ConfigText<'t>> {
+    match ConfigText::read(alloc, octets) {
+        Ok(text) => {
+            tell_keys(alloc, log, &text);
+            Some(text)
+        }
+        Err(TextFault::NoToml(error)) => {
+            tell_reason(log, "no-toml", &error);
+            None
+        }
+        Err(TextFault::OutOfMemory) => None,
     }
 }
 
-/// The log line of the number of warnings that are not logged one by one.
-#[derive(Clone, Copy)]
-struct MoreWarningsLine(usize);
-
-impl Display for MoreWarningsLine {
-    ghost use Rattle.std.specs.Prelude.{Some};
-    ghost use Rattle.rad_proxy.specs.Reasons.{more_warnings_line};
-
-    ghost output = { λ line. Some (more_warnings_line line.0) };
-
-    fn fmt<W: fmt::Write>(&self, f: &mut fmt::Formatter<W>) -> fmt::Result {
-        let count = self.0;
-        write!(f, "event=configuration-warnings count={count}")
-    }
-}
-
-/// Logs where a text stops being TOML, or which of its keys are unread. If memory is refused, it logs nothing.
-pub fn tell_text<L: Log>(alloc: Global, log: &L, text: &[u8]) {
-    if let Ok(Some(error)) = syntax_error(alloc, text) {
-        tell_reason(log, "no-toml", &error);
-        return;
-    }
-    if let Ok(keys) = unread_keys(alloc, text) {
-        tell_keys(log, &keys);
-    }
-}
-
-/// Logs the faults of a text that is refused. If memory is refused, it logs nothing.
-pub fn tell_faults<L: Log>(alloc: Global, log: &L, text: &[u8]) {
-    let Ok(faults) = fault_reports(alloc, text) else {
+/// Logs the unread keys of a text. If memory is refused, it logs nothing.
+fn tell_keys<L: Log>(alloc: Global, log: &L, text: &ConfigText<'_>) {
+    let Ok(keys) = unread_keys(alloc, text) else {
         return;
     };
-    for fault in faults.listed() {
-        tell_reason(log, "configuration-fault", fault);
-    }
-    if faults.more() > 0 {
-        tell_error(log, &MoreFaultsLine(faults.more()));
-    }
-}
-
-/// Logs what is hardly meant in a configuration that was read from this text. If memory is refused, it logs nothing.
-pub fn tell_doubts<L: Log>(alloc: Global, log: &L, text: &[u8], config: &Config) {
-    if let Ok(text) = std::str::from_utf8(text)
-        && let Ok(warnings) = list_warnings(alloc, config, text)
-    {
-        tell_warnings(log, &warnings);
-    }
-}
-
-/// Logs warnings.
-fn tell_warnings<L: Log>(log: &L, warnings: &Warnings) {
-    for warning in warnings.listed() {
-        warn_of_reason(log, warning.doubtful.doubt.event(), warning);
-    }
-    if warnings.more() > 0 {
-        tell_warning(log, &MoreWarningsLine(warnings.more()));
-    }
-}
-
-/// Logs unread keys.
-fn tell_keys<L: Log>(log: &L, keys: &UnreadKeys) {
-    for key in keys.listed() {
+    for key in keys.first() {
         warn_of_reason(log, "unread-key", key);
     }
-    if keys.more() > 0 {
-        tell_warning(log, &MoreKeysLine(keys.more()));
+    tell_more(log, Told::UnreadKeys, keys.more());
+}
+
+/// Logs the faults of a text that is refused, if there is one. If memory is refused, it logs nothing.
+pub fn tell_faults<L: Log>(alloc: Global, log: &L, text: Option<&ConfigText<'_>>) {
+    if let Some(text) = text
+        && let Ok(faults) = fault_reports(alloc, text)
+    {
+        for fault in faults.first() {
+            tell_reason(log, "configuration-fault", fault);
+        }
+        tell_more(log, Told::Faults, faults.more());
+    }
+}
+
+/// Logs what is hardly meant in a configuration that was read from this text, if there is one. If memory is refused, it logs
+/// nothing.
+pub fn tell_doubts<L: Log>(alloc: Global, log: &L, text: Option<&ConfigText<'_>>, config: &Config) {
+    if let Some(text) = text
+        && let Ok(warnings) = list_warnings(alloc, config, text)
+    {
+        for warning in warnings.first() {
+            warn_of_reason(log, warning.doubtful.doubt.event(), warning);
+        }
+        tell_more(log, Told::Warnings, warnings.more());
+    }
+}
+
+/// Logs how many are not listed, if there are such.
+fn tell_more<L: Log>(log: &L, told: Told, count: usize) {
+    if count == 0 {
+        return;
+    }
+    let line = MoreLine { told, count };
+    match told {
+        Told::Faults => tell_error(log, &line),
+        Told::UnreadKeys | Told::Warnings => tell_warning(log, &line),
     }
 }
 

@@ -6,14 +6,15 @@ use crate::faults::Fault;
 use crate::loading::load;
 use crate::machine::{Host, Machine};
 use crate::small_stack::SmallStack;
+use ledger_state::LedgerState;
 use libc::{STDIN_FILENO, STDOUT_FILENO};
 use rad_console::EndLine;
 use rad_log::{ErrorLines, Log, Logged, ToldStream, open_each_level, open_log, tell_reason};
 use rad_realms::Config;
 use rad_server::{Descriptors, ServeFault, Streams, run_with};
 use rad_telemetry::{
-    CounterTexts, LedgerState, StopFlag, Telemetry, Tracer, find_counter_file, find_trace_file,
-    report, start_texts,
+    CounterTexts, StopFlag, Telemetry, Tracer, find_counter_file, find_trace_file, report,
+    start_texts,
 };
 use rad_writer::{LedgerInlet, OpenedLedger, find_folder, open_ledger, start_writer};
 use std::alloc::{AllocError, Global};

@@ -34,7 +34,6 @@ pub fn read_words(alloc: Global, words: &[String]) -> Result<Task, Fault> {
     task_of(alloc, &matches)
 }
 
-/// Returns what the matched words ask for.
 fn task_of(alloc: Global, matches: &ArgMatches) -> Result<Task, Fault> {
     match matches.subcommand() {
         Some(("check", check)) => Ok(Task::Check(read_file_word(alloc, check)?)),
@@ -43,7 +42,6 @@ fn task_of(alloc: Global, matches: &ArgMatches) -> Result<Task, Fault> {
     }
 }
 
-/// Returns the word FILE of a command.
 fn read_file_word(alloc: Global, matches: &ArgMatches) -> Result<String, Fault> {
     let Some(file) = matches.get_str("FILE") else {
         return Err(Fault::Usage);
@@ -51,7 +49,6 @@ fn read_file_word(alloc: Global, matches: &ArgMatches) -> Result<String, Fault> 
     Ok(String::from_str(alloc, file)?)
 }
 
-/// Returns the words that the program takes.
 fn command<'a>(alloc: Global) -> Result<Command<'a>, AllocError> {
     let program = Command::new(alloc, "rad_proxy").subcommand(Command::new(alloc, "replay"))?;
     let program = with_file(alloc, program, "check")?;

@@ -3,5 +3,6 @@ pub mod Hex
 pub mod Lines
 pub mod PacketText
 pub mod Path
+pub mod Pieces
 pub mod Replaying
 pub mod Sent

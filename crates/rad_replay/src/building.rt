@@ -122,7 +122,6 @@ fn build_made(
     change(changes, octets)
 }
 
-/// Writes the packet that a template describes.
 fn write_template(
     template: &Template<'_>,
     sender: Sender<'_>,
@@ -180,7 +179,6 @@ fn sign(octets: &mut [u8], sender: Sender<'_>) {
     octets[4..20].copy_from_slice(&authenticator);
 }
 
-/// Makes the packet's authenticator invalid.
 fn spoil(template: &Template<'_>, octets: &mut [u8])
     requires { 20 ≤ length octets.old }
 {
@@ -191,7 +189,6 @@ fn spoil(template: &Template<'_>, octets: &mut [u8])
     octets[place] ^= 1;
 }
 
-/// Pads the packet, and then cuts it.
 fn change(changes: &Changes<'_>, octets: &mut Vec<u8>) -> Result<(), Halt> {
     changes.pad.push_to(octets)?;
     if changes.cut > octets.len() {

@@ -5,7 +5,7 @@ ghost use Rattle.rad_replay.specs.Hex.{octets_of};
 
 use crate::hex::Hex;
 use crate::numbers::{next_u8, next_usize, next_word};
-use rad_console::Pieces;
+use crate::pieces::Pieces;
 
 /// How a datagram is made.
 #[derive(Clone, Copy)]
@@ -115,7 +115,6 @@ fn parse_template<'a>(word: &[u8], words: &mut Pieces<'a>) -> Option<Template<'a
     }
 }
 
-/// Reads the words after `make`.
 fn parse_make<'a>(words: &mut Pieces<'a>) -> Option<Template<'a>> {
     let code = next_u8(words)?;
     let identifier = next_u8(words)?;
@@ -138,7 +137,6 @@ fn parse_hex<'a>(words: &mut Pieces<'a>, most: usize) -> Option<Hex<'a>>
     Some(octets)
 }
 
-/// Reads the next word as octets.
 fn next_hex<'a>(words: &mut Pieces<'a>) -> Option<Hex<'a>> {
     Hex::parse(next_word(words)?)
 }

@@ -2,7 +2,8 @@
 
 use crate::datagrams::{Packet, Template, parse_packet};
 use crate::numbers::{next_address, next_u16, next_usize, next_word};
-use rad_console::{Command, Pieces};
+use crate::pieces::Pieces;
+use rad_console::Command;
 
 /// An event that happens to the proxy.
 #[derive(Clone, Copy)]
@@ -47,7 +48,6 @@ impl<'a> Event<'a> {
     }
 }
 
-/// Reads the event of all these words.
 fn parse_line<'a>(words: &mut Pieces<'a>) -> Option<Event<'a>> {
     let first = next_word(words)?;
     let event = parse_event(first, words)?;
@@ -81,7 +81,6 @@ fn parse_act<'a>(first: &[u8], words: &mut Pieces<'a>) -> Option<Event<'a>> {
     }
 }
 
-/// Reads the words after `nas`.
 fn parse_nas<'a>(words: &mut Pieces<'a>) -> Option<Event<'a>> {
     let address = next_address(words)?;
     let port = next_u16(words)?;
@@ -121,7 +120,6 @@ fn parse_lane_and_port(numbers: &mut Pieces<'_>) -> Option<(u16, u16)> {
     }
 }
 
-/// Reads the word after `at`.
 fn parse_at<'a>(words: &mut Pieces<'a>) -> Option<Event<'a>> {
     let milliseconds = next_usize(words)? as u64;
     Some(Event::At { milliseconds })

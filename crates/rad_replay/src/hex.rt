@@ -63,7 +63,6 @@ impl<'a> Hex<'a> {
         Ok(())
     }
 
-    /// Returns the octet of this index.
     #[tactic(auto, using(crate::proofs::HexLemmas::written_count, crate::proofs::HexLemmas::written_octet))]
     fn octet_at(&self, index: usize) -> u8
         requires { index < length (octets_of self.now) }
@@ -86,7 +85,6 @@ fn is_written(word: &[u8]) -> bool
     !word.is_empty() && is_even && are_digits(word)
 }
 
-/// Returns whether a text has digits only.
 fn are_digits(text: &[u8]) -> bool
     ensures { result ≡ list_all the_is_digit text.now }
 {

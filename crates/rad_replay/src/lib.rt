@@ -5,9 +5,9 @@
 //! `rad_desk::laws::handle`, and the console that executes commands is that of `run`. The layer above uses the contract
 //! of `replay`: the [`EndLine`](rad_console::EndLine) that it returns has the totals of the report of a closed proxy.
 //!
-//! The definitions that the contracts cite are in specs: `Lines`, `PacketText` and `Hex` are how the lines are printed
-//! and how events write octets, `Path` is the result of a NAS's datagram, `Sent` what each source port sent last, and
-//! `Replaying` what is returned at the end.
+//! The definitions that the contracts cite are in specs: `Pieces` is how a text is cut, `Lines`, `PacketText` and `Hex` are
+//! how the lines are printed and how events write octets, `Path` is the result of a NAS's datagram, `Sent` what each source
+//! port sent last, and `Replaying` what is returned at the end.
 #![tactic(auto)]
 
 mod building;
@@ -19,6 +19,7 @@ mod lines;
 mod numbers;
 mod packet_text;
 mod path;
+mod pieces;
 mod replaying;
 mod script;
 mod sent;

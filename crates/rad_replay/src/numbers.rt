@@ -1,6 +1,6 @@
 //! The numbers and addresses in an event's words.
 
-use rad_console::Pieces;
+use crate::pieces::Pieces;
 use rad_realms::read_address;
 
 /// Returns the next word, if there is one.

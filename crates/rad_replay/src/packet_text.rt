@@ -46,7 +46,6 @@ impl<'a> PacketText<'a> {
         PacketText { octets }
     }
 
-    /// Returns the attributes of the packet.
     fn attributes(&self) -> AttributesText<'a>
         ensures { result.0.now ≡ drop 20 self.now.octets.now }
     {

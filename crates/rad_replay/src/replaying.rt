@@ -4,8 +4,10 @@ ghost use Rattle.std.specs.Prelude.{IfOk};
 ghost use Rattle.rad_replay.specs.Replaying.{IsEnd};
 
 use crate::faults::ReplayFault;
+use crate::pieces::Pieces;
 use crate::script::Script;
-use rad_console::{EndLine, Pieces, read_at_most, read_configuration};
+use rad_console::EndLine;
+use rad_files::{read_at_most, read_configuration};
 use rad_realms::{Config, ConfigFault};
 use std::alloc::{AllocError, Global};
 use std::io::{BufWriter, ErrorKind, Read, Write};

@@ -10,8 +10,9 @@ use crate::faults::{Halt, ReplayFault};
 use crate::lines::{Cut, HomeLine, NasLine, StepLine, TakeLine, TurnLine};
 use crate::packet_text::{PacketText, SentText};
 use crate::path::{Arrival, take_in};
+use crate::pieces::Pieces;
 use crate::sent::{Ports, source_port};
-use rad_console::{Command, EndLine, Pieces, close, obey};
+use rad_console::{Command, EndLine, close, obey};
 use rad_desk::{Inlet, OpenFault, Proxy, open};
 use rad_packet::Datagram;
 use rad_realms::Config;
@@ -120,7 +121,6 @@ impl<'a> Script<'a> {
         Ok(())
     }
 
-    /// Writes the result of one event.
     fn answer<R: Wait, W: Write>(
         &mut self,
         rt: &R,
@@ -277,7 +277,6 @@ impl<'a> Script<'a> {
     }
 }
 
-/// Writes a line.
 fn print<W: Write, L: Display>(output: &mut W, line: &L) -> Result<(), Halt> {
     match writeln!(output, "{line}") {
         Ok(()) => Ok(()),

@@ -122,7 +122,6 @@ fn keep_sent(sent: &mut [LastSent], port: u16, action: &Action, packet: &Datagra
     }
 }
 
-/// Returns whether a step gave a packet to be sent.
 fn sends(action: &Action) -> bool
     ensures { result ≡ the_sends action.now }
 {

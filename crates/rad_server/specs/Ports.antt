@@ -3,9 +3,9 @@ use Rattle.std.specs.Prelude.{ℕ, ◌+◌, ◌%◌, ◌-◌, ◌<◌, ◌≤◌
 use Rattle.std.specs.List.{list_any, filter_map, slice_split}
 use Rattle.std.specs.Str.{trim_end}
 use Rattle.rad_config.specs.Address.{◌>>=◌, number_in, around_first}
-use Rattle.rad_server.specs.declared.port_range.PortRange.{PortRange}
-use Rattle.rad_server.specs.declared.port_range.PortsFault.{PortsFault}
-use Rattle.rad_server.specs.declared.port_range.PortsFault.TheVariants.{NoText, NoRange, TooFew}
+use Rattle.rad_server.specs.declared.sockets.port_range.PortRange.{PortRange}
+use Rattle.rad_server.specs.declared.sockets.port_range.PortsFault.{PortsFault}
+use Rattle.rad_server.specs.declared.sockets.port_range.PortsFault.TheVariants.{NoText, NoRange, TooFew}
 
 -- A range is from its first port to its last one.
 abbrev pub range_of : ℕ → ℕ → Option PortRange

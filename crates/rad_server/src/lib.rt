@@ -7,51 +7,20 @@
 //! happens is reported to the gate only, and that as its [`SocketReports`]: this crate contains no log and no counters.
 #![tactic(auto)]
 
-mod address_monitor;
-mod answering;
-mod attending;
-mod beginning;
-mod bounds;
-mod client_queue;
-mod client_sockets;
-mod departing;
-mod endpoints;
+mod console;
 mod faults;
-mod heap_room;
-mod interrupting;
-mod kept;
-mod lingering;
-mod neighbours;
-mod notifying;
-mod outbox;
-mod polling;
-mod port_range;
-mod printing;
-mod raw_sockets;
-mod ready_socket;
-mod ring_level;
+mod sending;
 mod serving;
-mod sleeping;
-mod socket_reports;
 mod sockets;
-mod source_ports;
-mod streams;
-mod supervising;
-mod threads;
-mod turn_clock;
+mod waking;
 mod wires;
-mod wiring;
-mod working;
 
-pub use bounds::{Host, OwnedLedger, OwnedWire, SharedGate};
+pub use console::{Descriptors, Interruptible, Streams};
 pub use faults::ServeFault;
-pub use interrupting::Interruptible;
-pub use notifying::{Notifier, Notifiers};
-pub use port_range::{
-    PortRange, PortsFault, choose_port, is_kept, read_pinned, read_reserved, read_system_range,
+pub use serving::{Host, OwnedLedger, OwnedWire, SharedGate, run, run_with, serve, serve_with};
+pub use sockets::{
+    PortRange, PortSettings, PortsFault, SocketReports, choose_port, is_kept, read_pinned,
+    read_reserved, read_system_range,
 };
-pub use serving::{run, run_with, serve, serve_with};
-pub use socket_reports::SocketReports;
-pub use source_ports::PortSettings;
-pub use streams::{Descriptors, Streams};
-pub use wiring::{NotifiedWires, Wires};
+pub use waking::{Notifier, Notifiers};
+pub use wires::{NotifiedWires, Wires};

@@ -16,13 +16,11 @@ use std::time::{Clock, Duration, Instant};
 /// The environment variable that names the file of the counters.
 const COUNTERS: &str = "RAD_PROXY_COUNTERS";
 
-/// The event of a fault.
 const FAULT: &str = "counters-fault";
 
 /// How each text of counters begins, whichever program of this kind wrote it. A file of counters is known by it.
 const HEAD: &[u8] = b"# HELP rad_proxy_";
 
-/// How many octets that are.
 const HEAD_OCTETS: usize = 17;
 
 /// Who may read and write the file: its owner may do both, and everybody may read it.
@@ -206,7 +204,6 @@ pub fn find_counter_file<R: Env + AllocGlobal, L: Log>(
     find_path(rt, COUNTERS, log, FAULT, &FileFault::NoText)
 }
 
-/// Logs that the counters are not written, and why.
 fn log_fault<L: Log>(log: &L, fault: FileFault) {
     warn_of_reason(log, FAULT, &fault);
 }

@@ -4,9 +4,9 @@ use crate::lines::{ClientText, CutLine, PeerText, UpLine};
 use crate::packet_words::{DatagramWords, KeyWord, WordsOf};
 use crate::tracer::{Tracer, subject_of_packet};
 use crate::workers::worker_name;
-use rad_desk::{Origin, Session, Spent, Worker, WorkerReport};
+use rad_desk::{Origin, Session, Spent, WorkerReport};
 use rad_log::{Level, Log, logs_at, tell};
-use rad_metrics::{Numbers, Reason, report_row};
+use rad_metrics::{Classified, Numbers, Reason};
 use rad_realms::{Config, Endpoint};
 use std::fmt::{self, Display};
 
@@ -46,21 +46,14 @@ impl<'a, L> EventLog<'a, L> {
 
     /// Returns a copy.
     pub(crate) fn copy(&self) -> EventLog<'a, L> {
-        EventLog {
-            log: self.log,
-            config: self.config,
-            tracer: self.tracer,
-            trace: self.trace,
-        }
+        EventLog { ..*self }
     }
 
     /// Returns the log of lines about what is traced under a number, at this moment in microseconds since the program started.
     fn traced(&self, place: usize, now: u64) -> EventLog<'a, L> {
         EventLog {
-            log: self.log,
-            config: self.config,
-            tracer: self.tracer,
             trace: Some(TracedNow { place, now }),
+            ..*self
         }
     }
 }
@@ -81,24 +74,19 @@ impl<L: Log> EventLog<'_, L> {
     }
 
     /// Logs what a worker reports, if it is logged at once.
-    pub(crate) fn report<R>(
-        &self,
-        worker: Worker,
-        report: &WorkerReport<'_>,
-        numbers: &Numbers<'_, R>,
-    ) {
-        match self.tracer.find(worker, report) {
+    pub(crate) fn report<R>(&self, its: &Classified<'_>, numbers: &Numbers<'_, R>) {
+        match self.tracer.find(its.worker, its.report) {
             Some(place) => {
-                let now = numbers.turn_of(worker);
-                self.traced(place, now).report_at_once(worker, report);
+                let now = numbers.turn_of(its.worker);
+                self.traced(place, now).report_at_once(its);
             }
-            None => self.report_at_once(worker, report),
+            None => self.report_at_once(its),
         }
     }
 
-    fn report_at_once(&self, worker: Worker, report: &WorkerReport<'_>) {
-        let name = worker_name(self.config, report_row(worker, report));
-        match *report {
+    fn report_at_once(&self, its: &Classified<'_>) {
+        let name = worker_name(self.config, its.row);
+        match *its.report {
             WorkerReport::Received { from, octets } => self.passed("came", name, from, octets),
             WorkerReport::Sends { to, octets, .. } => self.passed("went", name, to, octets),
             WorkerReport::Accepted { number, octets, .. } => {
@@ -134,11 +122,10 @@ impl<L: Log> EventLog<'_, L> {
             WorkerReport::WentUp(reason) => {
                 self.tell(Level::Info, &UpLine { home: name, reason });
             }
-            _ => self.failed(name, report),
+            _ => self.failed(name, its.report),
         }
     }
 
-    /// Logs that a lane's home server is marked down, since this request is unanswered.
     fn went_down(&self, home: &str, spent: &Spent) {
         let number = spent.number;
         let client = ClientText(spent.client);
@@ -150,7 +137,6 @@ impl<L: Log> EventLog<'_, L> {
         self.tell(Level::Warn, &line);
     }
 
-    /// Logs a drop, a refusal, a fault or a cut.
     fn failed(&self, name: &str, report: &WorkerReport<'_>) {
         match *report {
             WorkerReport::Dropped {
@@ -198,7 +184,6 @@ impl<L: Log> EventLog<'_, L> {
         }
     }
 
-    /// Logs a datagram that a worker received or is about to send.
     fn passed(&self, event: &str, name: &str, peer: Endpoint, octets: &[u8]) {
         let peer = PeerText(peer);
         let words = DatagramWords(octets);

@@ -88,17 +88,14 @@ impl<L: Log> EventLog<'_, L> {
         tell(self.log, Level::Warn, &line);
     }
 
-    /// Logs how many more requests of a lane are left.
     fn others_left(&self, lane: u16, count: u64) {
         let home = worker_name(self.config, worker_row(Worker::Lane(lane)));
         tell(self.log, Level::Warn, &OthersLine { home, count });
     }
 }
 
-/// The log line of a request that is left.
 #[derive(Clone, Copy)]
 struct LeftLine<'a> {
-    /// The home server's name.
     home: &'a str,
     told: LeftRecord<'a>,
 }

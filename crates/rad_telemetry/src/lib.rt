@@ -1,6 +1,6 @@
 //! What is logged and counted of the workers that serve: the log lines, and the file that the metrics are written to.
 //!
-//! [`Telemetry`] is a gate that lets every worker go on. It passes each report to the numbers of `rad_metrics`, which
+//! [`Telemetry`] is a gate that lets every worker go on. It classifies each report, has the numbers of `rad_metrics`
 //! count it, and logs it. A [`Reporter`] logs once a second the sums of what was counted since the last time, and writes
 //! all metrics in Prometheus' text format. It also looks at the file that names what is traced, for the [`Tracer`]. A
 //! [`LeftLog`] logs the requests that are left at the end.
@@ -30,7 +30,6 @@ pub use counter_file::{
 };
 pub use left_log::LeftLog;
 pub use packet_words::PacketWords;
-pub use rad_metrics::{FileSum, LedgerFault, LedgerState, log_ledger_fault, system_number};
 pub use reporter::{Reporter, StopFlag, report};
 pub use telemetry::Telemetry;
 pub use trace_file::{TraceFault, TraceText, find_trace_file, read_trace_text};

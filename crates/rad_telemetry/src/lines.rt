@@ -196,7 +196,6 @@ pub struct PeerText(pub Endpoint);
 #[derive(Clone, Copy)]
 pub struct ClientText(pub Endpoint);
 
-/// A client's UDP port.
 #[derive(Clone, Copy)]
 struct ClientPort(u16);
 
@@ -239,7 +238,6 @@ impl fmt::Display for ClientPort {
     }
 }
 
-/// Returns the event of the log line of a sum.
 fn word_of(metric: Counted) -> &'static str
     ensures { result.now ≡ event_word metric }
 {

@@ -93,7 +93,6 @@ impl fmt::Display for WordsOf<'_> {
     }
 }
 
-/// Writes the words of a datagram that is a packet.
 fn write_packet<W: fmt::Write>(f: &mut fmt::Formatter<W>, packet: &PacketRef<'_>) -> fmt::Result {
     let code = packet.code();
     let length = packet.octets().len();

@@ -5,8 +5,9 @@ use crate::counter_file::CounterTexts;
 use crate::sums::Sums;
 use crate::trace_file::{TraceLook, TraceText};
 use crate::tracer::Tracer;
+use ledger_state::LedgerState;
 use rad_log::{Log, wait_until_set};
-use rad_metrics::{Draft, LedgerState, Numbers, SystemFiles};
+use rad_metrics::{Draft, Numbers, SystemFiles};
 use rad_realms::Config;
 use std::alloc::Global;
 use std::io;
@@ -134,21 +135,18 @@ where
 }
 
 impl<L: Log, R> Reporter<'_, L, R> {
-    /// Asks the workers for the standings of their lanes, if these are reported.
     fn ask(&self) {
         if self.texts.is_some() {
             self.numbers.ask_each();
         }
     }
 
-    /// Looks at the file that names what is traced, if there may be one.
     fn look<W: Wait, S: TraceText>(&self, rt: &W, source: &S, look: &mut TraceLook) {
         if let Some(path) = self.trace {
             look.look(rt, source, path, self.tracer, self.log);
         }
     }
 
-    /// Logs what was counted since the last call, and what went wrong with the ledger.
     fn log_sums(&self) {
         let counts = self.numbers.counts();
         self.sums.log(self.log, self.config, counts);
@@ -159,7 +157,6 @@ impl<L: Log, R> Reporter<'_, L, R> {
 }
 
 impl<L: Log, R: Clock> Reporter<'_, L, R> {
-    /// Tells what writes the texts that a second has passed since it was left the last one.
     fn pass_second<S: Wait>(&self, rt: &S) {
         if let Some(texts) = self.texts {
             texts.pass_second(rt);
@@ -178,7 +175,6 @@ impl<L: Log, R: Clock> Reporter<'_, L, R> {
         }
     }
 
-    /// Writes all metrics, and those of the ledger if there is one.
     fn write(&self, draft: &mut Draft) -> io::Result<()> {
         let ledger = match self.ledger {
             Some(ledger) => Some(ledger.reading(self.numbers.now())),

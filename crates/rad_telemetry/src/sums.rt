@@ -5,9 +5,9 @@ ghost use Rattle.std.specs.Prelude.{◌≡◌, ◌-◌};
 use crate::last_realm::LastRealm;
 use crate::lines::{Sum, SumLine};
 use crate::workers::worker_name;
-use rad_desk::{Worker, WorkerReport};
+use rad_desk::WorkerReport;
 use rad_log::{Level, Log, tell};
-use rad_metrics::{Counted, Counts, Event, Reason, report_peer, report_row};
+use rad_metrics::{Classified, Counted, Counts, Event, Reason};
 use rad_realms::{Config, Dropped, Endpoint};
 use std::alloc::{AllocError, Global};
 use std::sync::atomic::Ordering;
@@ -27,7 +27,6 @@ const SUMMED: &[Counted] = &[
 /// What was summed up so far, and what the lines of the next sums need of the last event of each.
 #[derive(Drop)]
 pub struct Sums {
-    /// How many events were summed up.
     given: Counts,
     /// The other end of the last event: its address, followed by its port.
     peers: Counts,
@@ -53,15 +52,14 @@ impl Sums {
     }
 
     /// Keeps what the next sum needs of a report, which is counted after this.
-    pub(crate) fn keep(&self, worker: Worker, report: &WorkerReport<'_>) {
-        let (Some(event), Some(peer)) = (Event::of(report), report_peer(report)) else {
+    pub(crate) fn keep(&self, its: &Classified<'_>) {
+        let (Some(event), Some(peer)) = (its.event, its.peer) else {
             return;
         };
-        let row = report_row(worker, report);
-        self.peers.swap(row, event, word_of(peer));
-        match *report {
+        self.peers.swap(its.row, event, word_of(peer));
+        match *its.report {
             WorkerReport::Marked { marks, .. } => {
-                if let Some(most) = self.marks.word(row, event) {
+                if let Some(most) = self.marks.word(its.row, event) {
                     most.fetch_max(marks, Ordering::SeqCst);
                 }
             }
@@ -141,14 +139,12 @@ fn level_of(sum: Sum) -> Level {
     }
 }
 
-/// Returns the word of an endpoint: its address, followed by its port.
 fn word_of(endpoint: Endpoint) -> u64 {
     let [a, b, c, d] = endpoint.address;
     let [high, low] = endpoint.port.to_be_bytes();
     u64::from_be_bytes([0, 0, a, b, c, d, high, low])
 }
 
-/// Returns the endpoint of a word.
 fn endpoint_of(word: u64) -> Endpoint {
     let [_, _, a, b, c, d, high, low] = word.to_be_bytes();
     Endpoint {
@@ -157,7 +153,6 @@ fn endpoint_of(word: u64) -> Endpoint {
     }
 }
 
-/// For the proof: returns how much a count rose.
 fn since(before: u64, now: u64) -> u64
     ensures { result ≡ now - before }
 {

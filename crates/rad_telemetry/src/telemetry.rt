@@ -11,7 +11,7 @@ use crate::tracer::Tracer;
 use crate::workers::worker_name;
 use rad_desk::{Asked, Call, Gate, Go, Ledger, Worker, WorkerReport};
 use rad_log::{Level, Log, logs_at, tell};
-use rad_metrics::{Numbers, worker_row};
+use rad_metrics::{Classified, Numbers, worker_row};
 use rad_realms::Config;
 use std::alloc::{AllocError, Global};
 use std::time::Clock;
@@ -102,8 +102,9 @@ impl<L: Log, R: Clock> Gate for Telemetry<'_, L, R> {
     }
 
     fn report(&self, worker: Worker, report: &WorkerReport<'_>) {
-        self.sums.keep(worker, report);
-        self.numbers.report(worker, report);
-        self.events.report(worker, report, &self.numbers);
+        let its = Classified::of(worker, report);
+        self.sums.keep(&its);
+        self.numbers.report(&its);
+        self.events.report(&its, &self.numbers);
     }
 }

@@ -15,13 +15,10 @@ use std::sync::Wait;
 /// The environment variable that names the file.
 const TRACE: &str = "RAD_PROXY_TRACE";
 
-/// The event of a fault.
 const FAULT: &str = "trace-fault";
 
-/// The most octets that the file may have.
 const MOST_OCTETS: usize = 4096;
 
-/// The most lines with something to trace.
 const MOST_LINES: usize = 16;
 
 /// The most octets of the Value of an attribute (RFC 2865 section 5).

@@ -17,7 +17,6 @@ use std::sync::{Mutex, RwLock, Wait};
 /// The most lines about what is traced that are logged in a second.
 const MOST_LINES: u64 = 200;
 
-/// How many microseconds a second has.
 const SECOND: u64 = 1_000_000;
 
 /// Something that is traced.
@@ -54,7 +53,6 @@ impl Wanted {
     }
 }
 
-/// Returns whether there is a text, and it is this one.
 fn is_one(found: Option<&[u8]>, text: &[u8]) -> bool
     ensures { result ≡ the_one (option_copied found.entry) text.now }
 {

@@ -5,13 +5,10 @@ use Rattle.ledger_files.specs.declared.utc.UtcTime.{UtcTime}
 use Rattle.ledger_lines.specs.Written.{HasValueBehind, entry_value, left_value}
 use Rattle.rad_config.specs.Realm.{realm_of_packet}
 use Rattle.rad_desk.specs.ToldValues.{first_value, status_in}
-use Rattle.rad_desk.specs.declared.leaving.LeftState.{LeftState}
-use Rattle.rad_desk.specs.declared.leaving.LeftState.TheVariants as state
 use Rattle.rad_lane.specs.Session.{session_id}
 use Rattle.rad_ledger.specs.declared.entry.Entry.{Entry}
 use Rattle.rad_ledger.specs.declared.left.Left.{Left}
-use Rattle.rad_ledger.specs.declared.left.LeftState.{LeftState as Named}
-use Rattle.rad_ledger.specs.declared.left.LeftState.TheVariants as named
+use Rattle.rad_ledger.specs.declared.line_request.LineRequest.{LineRequest}
 use Rattle.rad_packet.specs.Reading.{ReadsAs, Refuses}
 use Rattle.rad_packet.specs.declared.faults.ReadFault.{ReadFault}
 use Rattle.rad_writer.specs.declared.parcel.Fate.{Fate}
@@ -45,47 +42,35 @@ Tells octets realm session status user = TellsPacket octets realm session status
 abbrev pub IsHome : RunNames → ℕ → List ℕ → Type 0
 IsHome names lane home = MatchOption (slice_get names.homes.items lane) (home ≡ []) (λ name. home ≡ string_bytes name)
 
--- The entry has what the head has, this serial and these packets, names the run and the lane's home server, and tells what the packet to
--- the home server does.
+-- The request that a line is about has what the head has, names the run and the lane's home server, and tells what the packet to the home
+-- server does, or the packet as it came, if it is left.
+pub record IsAboutOf (names : RunNames) (head : ParcelHead) (octets moment : List ℕ) (about : LineRequest) : Type 0 where
+  pub run : about.run ≡ names.run
+  pub time : about.time.now ≡ moment
+  pub home : IsHome names head.lane about.home.now
+  pub lane : about.lane ≡ head.lane
+  pub number : about.number ≡ head.number
+  pub client : about.client ≡ head.client
+  pub port : about.port ≡ head.port
+  pub identifier : about.identifier ≡ head.identifier
+  pub authenticator : about.authenticator ≡ head.authenticator
+  pub told : Tells octets (option_copied about.realm) (option_copied about.session) about.status (option_copied about.user)
+
+-- The entry has this serial and these packets.
 pub record IsEntryOf (names : RunNames) (head : ParcelHead) (its_serial : ℕ) (sending answer given moment : List ℕ) (entry : Entry) : Type 0 where
-  pub run : entry.run ≡ names.run
-  pub time : entry.time.now ≡ moment
-  pub home : IsHome names head.lane entry.home.now
-  pub lane : entry.lane ≡ head.lane
+  pub about : IsAboutOf names head sending moment entry.about
   pub serial : entry.serial ≡ its_serial
-  pub number : entry.number ≡ head.number
-  pub client : entry.client ≡ head.client
-  pub port : entry.port ≡ head.port
-  pub identifier : entry.identifier ≡ head.identifier
-  pub authenticator : entry.authenticator ≡ head.authenticator
   pub sent : entry.sent.now ≡ sending
   pub reply : entry.reply.now ≡ answer
   pub response : entry.response.now ≡ given
-  pub told : Tells sending (option_copied entry.realm) (option_copied entry.session) entry.status (option_copied entry.user)
 
--- The state that a line names.
-abbrev pub state_in : Named → LeftState
-state_in named.Queued = state.Queued
-state_in named.Outstanding = state.Outstanding
-state_in named.Untaken = state.Untaken
-
--- The request that is left has what the head has, this fate and these octets. It names the run and the lane's home server, and tells
--- what its packet does.
+-- The request that is left has this fate and these octets.
 pub record IsLeftOf (names : RunNames) (head : ParcelHead) (fate : Fate) (octets moment : List ℕ) (since : Option (List ℕ)) (left : Left) : Type 0 where
-  pub run : left.run ≡ names.run
-  pub time : left.time.now ≡ moment
-  pub home : IsHome names head.lane left.home.now
-  pub lane : left.lane ≡ head.lane
-  pub number : left.number ≡ head.number
-  pub client : left.client ≡ head.client
-  pub port : left.port ≡ head.port
-  pub identifier : left.identifier ≡ head.identifier
-  pub authenticator : left.authenticator ≡ head.authenticator
-  pub state : state_in left.state ≡ fate.state
+  pub about : IsAboutOf names head octets moment left.about
+  pub state : left.state ≡ fate.state
   pub sendings : left.sendings ≡ fate.sendings
   pub accepted : option_copied left.accepted ≡ since
   pub request : left.request.now ≡ octets
-  pub told : Tells octets (option_copied left.realm) (option_copied left.session) left.status (option_copied left.user)
 
 -- The text of the moment that is so many milliseconds after 1970-01-01T00:00:00Z; and that of one that may be there.
 pub record IsMomentText (milliseconds : ℕ) (text : List ℕ) : Type 0 where

@@ -1,14 +1,16 @@
 -- The line that begins a file, and the line that ends a run.
-use Rattle.std.specs.Prelude.{◌≡◌, ℕ, zero, suc, ◌<◌, ◌^◌, List, [], ◌∷◌, ◌++◌, if◌then◌else◌, nat_lt, length, map, String, string_bytes, slice_get, Option, Some, None, option_copied, ⊤}
+use Rattle.std.specs.Prelude.{◌≡◌, ℕ, zero, suc, ◌<◌, ◌^◌, Bool, List, [], ◌∷◌, ◌++◌, if◌then◌else◌, nat_lt, length, map, String, string_bytes, slice_get, Option, Some, None, option_copied, ⊤}
 use Rattle.sha2.specs.Sha256.{sha256}
 use Rattle.ledger_lines.specs.Written.{HasValueBehind, begin_value, end_value}
 use Rattle.ledger_lines.specs.declared.begin.Begin.{Begin}
-use Rattle.ledger_lines.specs.declared.begin.End.{End}
+use Rattle.ledger_lines.specs.declared.end.End.{End}
 use Rattle.ledger_lines.specs.declared.begin.FileBefore.{FileBefore}
-use Rattle.ledger_lines.specs.declared.begin.LaneCount.{LaneCount}
-use Rattle.ledger_lines.specs.declared.begin.LaneStart.{LaneStart}
+use Rattle.ledger_lines.specs.declared.end.LaneCount.{LaneCount}
+use Rattle.ledger_lines.specs.declared.lane_start.LaneStart.{LaneStart}
 use Rattle.ledger_files.specs.declared.disk.FoundFile.{FoundFile}
+use Rattle.rad_writer.specs.Progress.{start_by}
 use Rattle.rad_writer.specs.declared.lines.FileStart.{FileStart}
+use Rattle.rad_writer.specs.declared.progress.LaneProgress.{LaneProgress}
 use Rattle.rad_writer.specs.declared.run_names.RunNames.{RunNames}
 
 -- The lane of a place in the run: a line has numbers of 16 bits.
@@ -20,20 +22,23 @@ abbrev pub lane_numbers : ℕ → List ℕ
 lane_numbers zero = []
 lane_numbers (suc count) = lane_numbers count ++ lane_number count ∷ []
 
--- A next serial, 0 where there is none. A ledger has none of 2^63 or above.
-abbrev pub serial_in : Option ℕ → ℕ
-serial_in None = 0
-serial_in (Some serial) = if nat_lt serial 9223372036854775807 then serial else 9223372036854775807
+-- The serial of a lane's next entry, 0 where there is no such lane. A ledger has none of 2^63 or above.
+abbrev pub bounded : ℕ → ℕ
+bounded serial = if nat_lt serial 9223372036854775807 then serial else 9223372036854775807
 
-abbrev pub serials_in : List ℕ → ℕ → List ℕ
-serials_in next zero = []
-serials_in next (suc count) = serials_in next count ++ serial_in (slice_get next count) ∷ []
+abbrev pub serial_in : Bool → Option LaneProgress → ℕ
+serial_in gone None = 0
+serial_in gone (Some lane) = bounded (start_by gone lane)
 
--- The lanes of these home servers, in order, with these next serials.
-pub record AreStarts {A : Type 0} (names : List (String A)) (next : List ℕ) (starts : List LaneStart) : Type 0 where
+abbrev pub serials_in : Bool → List LaneProgress → ℕ → List ℕ
+serials_in gone lanes zero = []
+serials_in gone lanes (suc count) = serials_in gone lanes count ++ serial_in gone (slice_get lanes count) ∷ []
+
+-- The lanes of these home servers, in order, with the serials of their next entries.
+pub record AreStarts {A : Type 0} (names : List (String A)) (gone : Bool) (lanes : List LaneProgress) (starts : List LaneStart) : Type 0 where
   pub numbers : map (λ start. start.lane) starts ≡ lane_numbers (length names)
   pub homes : map (λ start. start.home.now) starts ≡ map string_bytes names
-  pub serials : map (λ start. start.serial) starts ≡ serials_in next (length names)
+  pub serials : map (λ start. start.serial) starts ≡ serials_in gone lanes (length names)
 
 -- What is counted of a lane: how many responses were taken, and, once that is told, how many requests were accepted and are left.
 abbrev pub count_in : ℕ → ℕ → Option (ℕ × ℕ) → LaneCount
@@ -57,13 +62,13 @@ NamesIfAny (Some found) None = ⊥
 NamesIfAny (Some found) (Some file) = Names found file
 
 -- A line is behind these octets that begins a file of the run.
-pub record BeginsBehind (names : RunNames) (start : FileStart) (next before all : List ℕ) : Type 0 where
+pub record BeginsBehind (names : RunNames) (start : FileStart) (progress : List LaneProgress) (before all : List ℕ) : Type 0 where
   pub line : Begin
   pub run : line.run ≡ names.run
   pub file : line.file ≡ start.file
   pub sum : line.sum ≡ Some start.sum
   pub before_is : NamesIfAny (option_copied start.before) line.before
-  pub lanes : AreStarts names.homes.items next line.lanes.items
+  pub lanes : AreStarts names.homes.items start.is_gone progress line.lanes.items
   pub its_value : HasValueBehind before all (begin_value line)
 
 -- A line is behind these octets that ends the run.

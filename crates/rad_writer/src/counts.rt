@@ -24,10 +24,6 @@ struct LaneTotals {
 
 impl RunCounts {
     /// Makes the counts of so many lanes, all 0.
-    ///
-    /// # Errors
-    ///
-    /// `AllocError` if memory is refused.
     pub(crate) fn new(alloc: Global, lanes: usize) -> Result<RunCounts, AllocError> {
         let mut counts = Vec::with_capacity(alloc, lanes)?;
         for _ in 0..lanes {

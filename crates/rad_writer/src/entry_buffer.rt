@@ -34,10 +34,6 @@ impl EntryBuffer {
     ghost use Rattle.rad_writer.specs.Buffer.{HasNone, HoldsParcel, SameTaken, TakesNothing, TakesParcel};
 
     /// Makes the end, with room for the packets of a parcel.
-    ///
-    /// # Errors
-    ///
-    /// `AllocError` if memory is refused.
     pub(crate) fn new(
         alloc: Global,
         packets: Consumer<u8, Global>,

@@ -21,10 +21,6 @@ const SIZE: usize = 262_144;
 const LINES: usize = 1024;
 
 /// Makes an empty batch, with room for its lines.
-///
-/// # Errors
-///
-/// `AllocError` if memory is refused.
 pub(crate) fn new_batch(alloc: Global) -> Result<Batch, AllocError>
     ensures { IfOk result (λ batch. HoldsLines batch []) }
 {

@@ -25,6 +25,7 @@ mod inlet;
 mod lines;
 mod opening;
 mod parcel;
+mod progress;
 mod run_names;
 mod runtime_disk;
 mod shares;

@@ -2,19 +2,20 @@
 
 ghost use Rattle.std.specs.Prelude.{◌≡◌, ◌<◌, ◌^◌, IfOk, MatchOption, Some, length, option_copied, option_map, slice_get, string_bytes};
 ghost use Rattle.ledger_lines.specs.Written.{HasLineBehind};
-ghost use Rattle.rad_writer.specs.Entries.{HasEntryBehind, HasLeftBehind, HasParcelBehind, IsEntryOf, IsLeftOf, IsMomentIfAny, IsMomentText, Tells, state_in};
+ghost use Rattle.rad_writer.specs.Entries.{HasEntryBehind, HasLeftBehind, HasParcelBehind, IsAboutOf, IsEntryOf, IsLeftOf, IsMomentIfAny, IsMomentText, Tells};
 ghost use Rattle.rad_writer.specs.RunLines.{AreCounted, AreStarts, BeginsBehind, EndsBehind, NamesIfAny, count_in, lane_number, serial_in};
 
 use crate::counts::RunCounts;
 use crate::parcel::{Fate, Origin, Parcel, ParcelHead};
+use crate::progress::LaneProgress;
 use crate::run_names::RunNames;
 use ledger_files::{FoundFile, SUM_OCTETS, UtcTime};
 use ledger_lines::{
     Begin, End, FileBefore, LaneCount, LaneStart, write_begin, write_end, write_entry, write_left,
 };
-use rad_desk::{LeftState, status_of, user_of};
+use rad_desk::{status_of, user_of};
 use rad_lane::session_of;
-use rad_ledger::{self, Entry, Left};
+use rad_ledger::{Entry, Left, LineRequest};
 use rad_metrics::VERSION;
 use rad_packet::read;
 use rad_realms::realm_of_packet;
@@ -24,10 +25,6 @@ use std::alloc::{AllocError, Global};
 const GREATEST_SERIAL: u64 = 9_223_372_036_854_775_807;
 
 /// Writes the line of a parcel behind what these octets are.
-///
-/// # Errors
-///
-/// `AllocError` if memory is refused.
 pub(crate) fn line_of(
     alloc: Global,
     names: &RunNames,
@@ -44,10 +41,6 @@ pub(crate) fn line_of(
 }
 
 /// Writes the line of the parcel of the response of this serial behind what these octets are.
-///
-/// # Errors
-///
-/// `AllocError` if memory is refused.
 fn entry_line(
     alloc: Global,
     names: &RunNames,
@@ -70,10 +63,6 @@ fn entry_line(
 }
 
 /// Writes the line of the parcel of a request that is left behind what these octets are.
-///
-/// # Errors
-///
-/// `AllocError` if memory is refused.
 fn left_line(
     alloc: Global,
     names: &RunNames,
@@ -109,10 +98,6 @@ fn lent(text: &Option<String>) -> Option<&str>
 }
 
 /// Returns when a request was accepted, as a line has it, if it is known.
-///
-/// # Errors
-///
-/// `AllocError` if memory is refused.
 fn accepted_text(alloc: Global, time: Option<u64>) -> Result<Option<String>, AllocError>
     ensures { IfOk result (λ text. IsMomentIfAny time (option_map string_bytes text)) }
 {
@@ -133,48 +118,16 @@ fn left_of<'a>(
 ) -> Left<'a>
     ensures { IsLeftOf names.now head fate request.now time.now (option_copied accepted.entry) result }
 {
-    let told = told_in(request);
-    let home = names.home(head.lane);
-    let number = head.number;
-    let client = head.client;
-    let authenticator = head.authenticator;
     Left {
-        run: names.run,
-        time,
-        home,
-        lane: head.lane,
-        number,
-        client,
-        port: head.port,
-        identifier: head.identifier,
-        authenticator,
-        realm: told.realm,
-        session: told.session,
-        status: told.status,
-        user: told.user,
-        state: state_of(fate.state),
+        about: about_of(names, head, request, time),
+        state: fate.state,
         sendings: fate.sendings,
         accepted,
         request,
     }
 }
 
-/// Returns the state of a request that is left, as a line names it.
-fn state_of(state: LeftState) -> rad_ledger::LeftState
-    ensures { state_in result ≡ state }
-{
-    match state {
-        LeftState::Queued => rad_ledger::LeftState::Queued,
-        LeftState::Outstanding => rad_ledger::LeftState::Outstanding,
-        LeftState::Untaken => rad_ledger::LeftState::Untaken,
-    }
-}
-
 /// Returns a time in milliseconds since 1970, as a line has it.
-///
-/// # Errors
-///
-/// `AllocError` if memory is refused.
 fn time_text(alloc: Global, time: u64) -> Result<String, AllocError>
     ensures { IfOk result (λ text. IsMomentText time (string_bytes text)) }
 {
@@ -194,23 +147,38 @@ fn entry_of<'a>(
 ) -> Entry<'a>
     ensures { IsEntryOf names.now head serial sent.now reply.now response.now time.now result }
 {
-    let told = told_in(sent);
+    Entry {
+        about: about_of(names, head, sent, time),
+        serial,
+        sent,
+        reply,
+        response,
+    }
+}
+
+/// Returns the request that the line of a parcel is about, by the parcel's head and this packet, with this text for the
+/// line's time.
+fn about_of<'a>(
+    names: &'a RunNames,
+    head: ParcelHead,
+    packet: &'a [u8],
+    time: &'a str,
+) -> LineRequest<'a>
+    ensures { IsAboutOf names.now head packet.now time.now result }
+{
+    let told = told_in(packet);
     let client = head.client;
     let authenticator = head.authenticator;
-    Entry {
+    LineRequest {
         run: names.run,
         time,
         home: names.home(head.lane),
         lane: head.lane,
-        serial,
         number: head.number,
         client,
         port: head.port,
         identifier: head.identifier,
         authenticator,
-        sent,
-        reply,
-        response,
         realm: told.realm,
         session: told.session,
         status: told.status,
@@ -256,27 +224,25 @@ pub(crate) struct FileStart<'a> {
     pub(crate) sum: [u8; SUM_OCTETS],
     /// The file of another run that was written last, if there is one and this is the first file.
     pub(crate) before: Option<&'a FoundFile>,
+    /// Whether the file before it in the run is gone, with its entries.
+    pub(crate) is_gone: bool,
 }
 
-/// Writes the line that begins a file behind what these octets are. The next entry of each lane has the serial that is in
-/// `next` at its place.
-///
-/// # Errors
-///
-/// `AllocError` if memory is refused.
+/// Writes the line that begins a file behind what these octets are. It tells the serial of the next entry of each lane, by the
+/// progress of the lanes.
 pub(crate) fn begin_line(
     alloc: Global,
     names: &RunNames,
     time: u64,
     start: FileStart<'_>,
-    next: &[u64],
+    progress: &[LaneProgress],
     out: Vec<u8>,
 ) -> Result<Vec<u8>, AllocError>
     ensures line { IfOk result (λ all. HasLineBehind out.items all.items) }
-    ensures begin { IfOk result (λ all. BeginsBehind names.now start.entry next.now out.items all.items) }
+    ensures begin { IfOk result (λ all. BeginsBehind names.now start.entry progress.now out.items all.items) }
 {
     let time = time_text(alloc, time)?;
-    let lanes = lane_starts(alloc, names, next)?;
+    let lanes = lane_starts(alloc, names, start.is_gone, progress)?;
     let begin = begin_of(names, time.as_str(), start, lanes);
     write_begin(alloc, &begin, out)
 }
@@ -320,20 +286,17 @@ fn file_before(found: Option<&FoundFile>) -> Option<FileBefore<'_>>
 }
 
 /// Returns the run's lanes, each with the serial of its next entry.
-///
-/// # Errors
-///
-/// `AllocError` if memory is refused.
 fn lane_starts<'a>(
     alloc: Global,
     names: &'a RunNames,
-    next: &[u64],
+    is_gone: bool,
+    progress: &[LaneProgress],
 ) -> Result<Vec<LaneStart<'a>>, AllocError>
-    ensures { IfOk result (λ lanes. AreStarts names.now.homes.items next.now lanes.items) }
+    ensures { IfOk result (λ lanes. AreStarts names.now.homes.items is_gone progress.now lanes.items) }
 {
     let mut lanes = Vec::with_capacity(alloc, names.homes.len())?;
     for lane in 0..names.homes.len() {
-        let serial = serial_at(next, lane);
+        let serial = serial_at(progress, is_gone, lane);
         lanes.push(LaneStart {
             lane: number_of(lane),
             home: names.homes[lane].as_str(),
@@ -345,10 +308,6 @@ fn lane_starts<'a>(
 
 /// Returns the run's lanes, each with how many responses of it were taken, and, once that was told, how many requests it
 /// accepted and how many of them are left.
-///
-/// # Errors
-///
-/// `AllocError` if memory is refused.
 fn lane_counts(
     alloc: Global,
     names: &RunNames,
@@ -381,29 +340,24 @@ fn count_of(lane: usize, entries: u64, end: Option<(u64, u64)>) -> LaneCount
     }
 }
 
-/// Returns a lane's number, as a line has it.
 fn number_of(lane: usize) -> u16
     ensures { result ≡ lane_number lane }
 {
     u16::try_from(lane).unwrap_or(u16::MAX)
 }
 
-/// Returns a lane's next serial.
-fn serial_at(next: &[u64], lane: usize) -> u64
+/// Returns the serial of a lane's next entry.
+fn serial_at(progress: &[LaneProgress], is_gone: bool, lane: usize) -> u64
     ensures bounded { result < 2 ^ 63 }
-    ensures value { result ≡ serial_in (slice_get next.now lane) }
+    ensures value { result ≡ serial_in is_gone (slice_get progress.now lane) }
 {
-    match next.get(lane) {
-        Some(serial) => (*serial).min(GREATEST_SERIAL),
+    match progress.get(lane) {
+        Some(lane) => lane.start(is_gone).min(GREATEST_SERIAL),
         None => 0,
     }
 }
 
 /// Writes the line that ends the run behind what these octets are. This is the sum of the lines before it.
-///
-/// # Errors
-///
-/// `AllocError` if memory is refused.
 pub(crate) fn end_line(
     alloc: Global,
     names: &RunNames,

@@ -9,14 +9,16 @@ use crate::entry_buffer::EntryBuffer;
 use crate::filling::new_batch;
 use crate::giving::{PLACES, ParcelGiver, ROOM};
 use crate::inlet::LedgerInlet;
+use crate::progress::{LaneProgress, NOT_BEGUN};
 use crate::run_names::RunNames;
 use crate::shares::{ClientShares, NOTHING, Taking};
 use crate::writer::{LedgerWriter, LineSource};
 use ledger_files::LedgerDisk;
 use ledger_lines::MOST_LINE_OCTETS;
+use ledger_state::{LedgerFault, LedgerState, log_ledger_fault};
 use rad_desk::Handed;
 use rad_log::Log;
-use rad_metrics::{LedgerFault, LedgerState, log_ledger_fault, time_since_1970};
+use rad_metrics::time_since_1970;
 use rad_realms::{Config, Home};
 use rtrb::RingBuffer;
 use std::alloc::{AllocError, AllocGlobal, Global};
@@ -78,7 +80,7 @@ pub fn open_ledger<'a, R: Clock + RandomSource>(
     ensures room { IfOk result (λ opened. HasRoom 67108864 180000 opened.inlet.giver) }
     ensures folder { IfOk result (λ opened. opened.writer.source.folder ≡ folder) }
     ensures names { IfOk result (λ opened. AreNamesOf config.now.homes opened.writer.source.names.homes.items) }
-    ensures lanes { IfOk result (λ opened. vec_len opened.writer.source.next ≡ length config.now.homes) }
+    ensures lanes { IfOk result (λ opened. vec_len opened.writer.source.lanes ≡ length config.now.homes) }
     ensures clients { IfOk result (λ opened. vec_len opened.inlet.puts ≡ length config.now.clients) }
 {
     let lanes = config.homes().len();
@@ -117,10 +119,6 @@ struct Shared {
 }
 
 /// Makes the two ends of the buffer: of a ring of packets, and of a ring of their heads.
-///
-/// # Errors
-///
-/// `AllocError` if memory is refused.
 fn open_buffer(alloc: Global, shared: &Shared) -> Result<(ParcelGiver, EntryBuffer), AllocError>
     ensures { IfOk result (λ ends. HasRoom 67108864 180000 ends.0) }
 {
@@ -132,10 +130,6 @@ fn open_buffer(alloc: Global, shared: &Shared) -> Result<(ParcelGiver, EntryBuff
 }
 
 /// Makes what the front puts into this end of the buffer.
-///
-/// # Errors
-///
-/// `AllocError` if memory is refused.
 fn open_inlet<'a, R: Clock>(
     rt: &'a R,
     giver: ParcelGiver,
@@ -161,10 +155,6 @@ fn open_inlet<'a, R: Clock>(
 }
 
 /// Makes what the writer's lines come from, over this end of the buffer.
-///
-/// # Errors
-///
-/// `AllocError` if memory is refused.
 fn open_source(
     alloc: Global,
     run: u64,
@@ -175,40 +165,29 @@ fn open_source(
 ) -> Result<LineSource, AllocError>
     ensures folder { IfOk result (λ source. source.folder ≡ folder) }
     ensures names { IfOk result (λ source. AreNamesOf homes.now source.names.homes.items) }
-    ensures lanes { IfOk result (λ source. vec_len source.next ≡ length homes.now) }
+    ensures lanes { IfOk result (λ source. vec_len source.lanes ≡ length homes.now) }
 {
     Ok(LineSource {
         folder,
         names: RunNames::new(alloc, run, homes)?,
         entries,
         room: Vec::with_capacity(alloc, MOST_LINE_OCTETS)?,
-        next: zeros(alloc, homes.len())?,
-        from: zeros(alloc, homes.len())?,
-        first: zeros(alloc, homes.len())?,
-        held: zeros(alloc, homes.len())?,
+        lanes: no_progress(alloc, homes.len())?,
         counts: Arc::try_clone(&shared.counts)?,
         state: Arc::try_clone(&shared.state)?,
     })
 }
 
-/// Makes a number for each of so many lanes, 0 at first.
-///
-/// # Errors
-///
-/// `AllocError` if memory is refused.
-fn zeros(alloc: Global, lanes: usize) -> Result<Vec<u64>, AllocError>
-    ensures { IfOk result (λ numbers. vec_len numbers ≡ lanes) }
+/// Makes the progress of each of so many lanes: nothing is written yet.
+fn no_progress(alloc: Global, lanes: usize) -> Result<Vec<LaneProgress>, AllocError>
+    ensures { IfOk result (λ progress. vec_len progress ≡ lanes) }
 {
-    let mut numbers = Vec::with_capacity(alloc, lanes)?;
-    numbers.resize(lanes, 0)?;
-    Ok(numbers)
+    let mut progress = Vec::with_capacity(alloc, lanes)?;
+    progress.resize(lanes, NOT_BEGUN)?;
+    Ok(progress)
 }
 
 /// Makes what each of so many clients put into the buffer: nothing yet.
-///
-/// # Errors
-///
-/// `AllocError` if memory is refused.
 fn no_puts(alloc: Global, clients: usize) -> Result<Vec<Taking>, AllocError>
     ensures { IfOk result (λ puts. vec_len puts ≡ clients) }
 {

@@ -15,10 +15,6 @@ pub(crate) struct RunNames {
 
 impl RunNames {
     /// Makes them of a configuration's home servers.
-    ///
-    /// # Errors
-    ///
-    /// `AllocError` if memory is refused.
     pub(crate) fn new(alloc: Global, run: u64, homes: &[Home]) -> Result<RunNames, AllocError>
         ensures { IfOk result (λ names. (names.run ≡ run) × AreNamesOf homes.now names.homes.items) }
     {

@@ -2,7 +2,7 @@
 
 use crate::file_before::find_file;
 use ledger_files::{DiskFault, FoundFile, LedgerDisk};
-use rad_metrics::system_number;
+use ledger_state::system_number;
 use std::alloc::{AllocGlobal, Global};
 use std::fs::{self, Files, Metadata, OpenFile, OpenOptions, Permissions};
 use std::io::{self, ErrorKind, Read, Write};

@@ -41,10 +41,6 @@ struct Passed {
 
 impl ClientShares {
     /// Makes the rows of these clients. Nothing is passed yet.
-    ///
-    /// # Errors
-    ///
-    /// `AllocError` if memory is refused.
     pub(crate) fn new(alloc: Global, clients: &[Client]) -> Result<ClientShares, AllocError> {
         let mut rows = BTreeMap::new(alloc);
         let mut passed = Vec::with_capacity(alloc, clients.len())?;

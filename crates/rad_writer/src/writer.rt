@@ -1,18 +1,21 @@
 //! The thread that writes the entries to files.
 
-ghost use Rattle.std.specs.Prelude.{◌≡◌, ◌≤◌, ◌+◌, ◌-◌, ◌^◌, ◌==◌, if◌then◌else◌, [], ◌∷◌, get_or, min, slice_range, slice_set, vec_len};
+ghost use Rattle.std.specs.Prelude.{◌≡◌, ◌≤◌, ◌+◌, [], ◌∷◌, get_or, slice_range, slice_set};
 ghost use Rattle.std.specs.Int.{from_be_bytes, w64};
 ghost use Rattle.ledger_files.specs.Batches.{HoldsLines};
+ghost use Rattle.rad_writer.specs.Progress.{not_begun, passed_by};
 
-use crate::counts::{RunCounts, behind};
+use crate::counts::RunCounts;
 use crate::entry_buffer::EntryBuffer;
 use crate::lines::{FileStart, begin_line, end_line};
+use crate::progress::{LaneProgress, progress_at, put_at};
 use crate::run_names::RunNames;
 use ledger_files::{
     Batch, DiskFault, FileDay, FileName, FoundFile, LedgerDisk, LineHead, OpenFile, RunFiles,
     SUM_OCTETS, date_of, day_of, is_next_due,
 };
-use rad_metrics::{FileSum, LedgerFault, LedgerState, time_since_1970};
+use ledger_state::{FileSum, LedgerFault, LedgerState};
+use rad_metrics::time_since_1970;
 use std::alloc::{AllocError, Global};
 use std::marker::Sync;
 use std::sync::{Arc, Wait};
@@ -51,14 +54,7 @@ pub(crate) struct LineSource {
     pub(crate) entries: EntryBuffer,
     /// Where the line of each entry is made.
     pub(crate) room: Vec<u8>,
-    /// The serial behind the last entry of each lane that was written.
-    pub(crate) next: Vec<u64>,
-    /// The serial of each lane that the file that is open begins with, as its first line says.
-    pub(crate) from: Vec<u64>,
-    /// The serial of the first entry of each lane that was written to that file.
-    pub(crate) first: Vec<u64>,
-    /// How many entries of each lane were written to it.
-    pub(crate) held: Vec<u64>,
+    pub(crate) lanes: Vec<LaneProgress>,
     pub(crate) counts: Arc<RunCounts>,
     pub(crate) state: Arc<LedgerState>,
 }
@@ -141,33 +137,24 @@ impl LedgerWriter {
 impl LineSource {
     /// Counts an entry of this lane and serial as written to the file that is open.
     fn pass(&mut self, lane: u16, serial: u64)
-        ensures next { self.new.next.items ≡ slice_set self.old.next.items lane (min (serial + 1) (2 ^ 64 - 1)) }
-        ensures first { self.new.first.items ≡ (if get_or self.old.held.items lane 0 == 0 then slice_set self.old.first.items lane serial else self.old.first.items) }
-        ensures held { self.new.held.items ≡ slice_set self.old.held.items lane (min (get_or self.old.held.items lane 0 + 1) (2 ^ 64 - 1)) }
+        ensures { self.new.lanes.items ≡ slice_set self.old.lanes.items lane (passed_by serial (get_or self.old.lanes.items lane not_begun)) }
     {
         self.state.write(lane, serial);
         let lane = usize::from(lane);
-        put_at(&mut self.next, lane, behind(serial));
-        let held = number_at(&self.held, lane);
-        if held == 0 {
-            put_at(&mut self.first, lane, serial);
-        }
-        put_at(&mut self.held, lane, behind(held));
+        let progress = progress_at(self.lanes.as_slice(), lane);
+        put_at(&mut self.lanes, lane, progress.passed(serial));
     }
 
     /// Records that the next file is begun. If the one before is gone, the entries that were written to it are lost.
     fn leave_file(&mut self, is_gone: bool) {
-        for lane in 0..self.next.len() {
-            let held = number_at(&self.held, lane);
-            let next = number_at(&self.next, lane);
-            if !is_gone {
-                put_at(&mut self.from, lane, next);
-            } else if held != 0 {
-                let first = number_at(&self.first, lane);
+        for lane in 0..self.lanes.len() {
+            let progress = progress_at(self.lanes.as_slice(), lane);
+            if is_gone && progress.held != 0 {
                 let number = u16::try_from(lane).unwrap_or(u16::MAX);
-                self.state.lose(number, held, first, next.saturating_sub(1));
+                let last = progress.next.saturating_sub(1);
+                self.state.lose(number, progress.held, progress.first, last);
             }
-            put_at(&mut self.held, lane, 0);
+            put_at(&mut self.lanes, lane, progress.at_next_file(is_gone));
         }
     }
 }
@@ -432,11 +419,6 @@ impl<R: Clock + Threads + Sync, D: LedgerDisk + Drop> Session<'_, R, D> {
 
     /// Returns the line that begins the next file. If the one before is gone, it says from which serials on.
     fn first_line(&self, now: u64, is_gone: bool) -> Result<Vec<u8>, AllocError> {
-        let serials = if is_gone {
-            &self.source.from
-        } else {
-            &self.source.next
-        };
         let sum = self.files.sum();
         begin_line(
             self.alloc,
@@ -446,8 +428,9 @@ impl<R: Clock + Threads + Sync, D: LedgerDisk + Drop> Session<'_, R, D> {
                 file: self.number,
                 sum,
                 before: self.before.as_ref(),
+                is_gone,
             },
-            serials.as_slice(),
+            self.source.lanes.as_slice(),
             Vec::new(self.alloc),
         )
     }
@@ -540,25 +523,6 @@ impl<R: Clock + Threads + Sync, D: LedgerDisk + Drop> Session<'_, R, D> {
     }
 }
 
-/// Returns the number of a lane, or 0 if there is none.
-fn number_at(numbers: &[u64], lane: usize) -> u64
-    ensures { result ≡ get_or numbers.now lane 0 }
-{
-    match numbers.get(lane) {
-        Some(number) => *number,
-        None => 0,
-    }
-}
-
-/// Sets the number of a lane, if there is one.
-fn put_at(numbers: &mut Vec<u64>, lane: usize, number: u64)
-    ensures { numbers.new.items ≡ slice_set numbers.old.items lane number }
-{
-    if let Some(place) = numbers.get_mut(lane) {
-        *place = number;
-    }
-}
-
 /// Returns a sum, as four numbers of eight octets each.
 fn words_of(sum: [u8; SUM_OCTETS]) -> [u64; 4]
     ensures { result ≡ from_be_bytes w64 (slice_range sum 0 8) ∷ from_be_bytes w64 (slice_range sum 8 16) ∷ from_be_bytes w64 (slice_range sum 16 24) ∷ from_be_bytes w64 (slice_range sum 24 32) ∷ [] }
@@ -571,7 +535,6 @@ fn words_of(sum: [u8; SUM_OCTETS]) -> [u64; 4]
     ]
 }
 
-/// Returns the number that the eight octets from a place on are.
 fn word_at(sum: &[u8; SUM_OCTETS], place: usize) -> u64
     requires { place ≤ 24 }
     ensures { result ≡ from_be_bytes w64 (slice_range sum.now place (place + 8)) }
@@ -581,7 +544,6 @@ fn word_at(sum: &[u8; SUM_OCTETS], place: usize) -> u64
     u64::from_be_bytes(octets)
 }
 
-/// Returns the fault of the ledger that a fault of its disk is.
 fn ledger_fault(fault: DiskFault) -> LedgerFault {
     match fault {
         DiskFault::Gone => LedgerFault::Gone,

@@ -2,7 +2,7 @@
 //! cut again and again. At the end each number is queued, or outstanding, or answered by one response, and that once.
 
 use crate::comparing::holds;
-use crate::configured::configured;
+use crate::configured::with_one_home;
 use crate::desk::making::{reply_to, request};
 use crate::desk::setting::{CLIENT, start};
 use rad_auth::{Mark, Secret, check_response};
@@ -15,21 +15,8 @@ use std::alloc::{AllocError, Global};
 use std::sync::Wait;
 use std::test::Fail;
 
-/// A client and a home server whose answered requests are over at once.
-const TEXT: &str = r#"
-listen = "127.0.0.1:1813"
-[[client]]
-address = "10.0.0.1"
-secret = "nas-secret"
-[[realm]]
-name = "example.org"
-home = "h1"
-[[home]]
-name = "h1"
-address = "127.0.0.1:2813"
-secret = "home-secret"
-span = 0
-"#;
+/// With this an answered request is over at once.
+const KEYS: &str = "span = 0";
 
 /// How many requests are accepted.
 const REQUESTS: u16 = 60;
@@ -222,7 +209,7 @@ fn end(alloc: Global, proxy: Proxy, inlets: Vec<Inlet>, fates: &mut Fates) -> bo
 
 #[test]
 fn each_request_has_one_fate(rt: HostRuntime) -> Result<(), Fail> {
-    let config = configured(rt.alloc(), TEXT)?;
+    let config = with_one_home(rt.alloc(), KEYS)?;
     let (proxy, mut inlets) = open(rt.alloc(), &config)?;
     let mut fates = Fates::new();
     let is_led = match inlets.as_mut_slice().first_mut() {

@@ -1,7 +1,7 @@
 //! What a gate hears that has no more than `before`, `after` and `note`: each kind of note once, between the calls.
 
 use crate::comparing::holds;
-use crate::configured::configured;
+use crate::configured::with_one_home;
 use crate::desk::threads::close;
 use crate::homes::REPLY;
 use crate::nas::{REQUEST, SECOND_REQUEST};
@@ -18,25 +18,8 @@ use std::cell::Cell;
 use std::sync::Wait;
 use std::test::Fail;
 
-/// A configuration of one lane, whose book holds one request, which is over once it is answered.
-const ONE_REQUEST: &str = r#"
-listen = "127.0.0.1:1813"
-[[client]]
-address = "10.0.0.1"
-secret = "nas-secret"
-[[realm]]
-name = "example.org"
-home = "h1"
-[[home]]
-name = "h1"
-address = "127.0.0.1:2813"
-secret = "home-secret"
-book = 1
-tries = 1
-first_wait = 100
-down_wait = 1000
-span = 0
-"#;
+/// With these the book holds one request, which is over once it is answered.
+const KEYS: &str = "book = 1\ntries = 1\nfirst_wait = 100\ndown_wait = 1000\nspan = 0";
 
 const CLIENT: Endpoint = Endpoint {
     address: [10, 0, 0, 1],
@@ -302,7 +285,7 @@ fn work_all(rt: &impl Wait, alloc: Global, config: &Config, gate: &Comparing) ->
 
 #[test]
 fn a_gate_hears_each_note_between_the_calls(rt: HostRuntime) -> Result<(), Fail> {
-    let config = configured(rt.alloc(), ONE_REQUEST)?;
+    let config = with_one_home(rt.alloc(), KEYS)?;
     let gate = Comparing {
         place: Cell::new(Some(0)),
     };

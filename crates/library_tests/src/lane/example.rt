@@ -11,7 +11,7 @@ use super::answers::Gives::{
 };
 use super::answers::{Row, gave};
 use crate::comparing::holds;
-use crate::configured::configured;
+use crate::configured::with_one_home;
 use crate::homes::{FORWARDED, REPLY, SECOND_FORWARDED, SECOND_PROBE, SECOND_PROBE_ANSWER};
 use crate::nas::{REQUEST, RESPONSE, SECOND_REQUEST};
 use block_queue::BlockQueue;
@@ -21,20 +21,7 @@ use rad_tables::Moment;
 use std::alloc::Global;
 use std::test::Fail;
 
-const CONFIGURATION: &str = r#"
-listen = "127.0.0.1:1813"
-[[client]]
-address = "10.0.0.1"
-secret = "nas-secret"
-[[realm]]
-name = "example.org"
-home = "h1"
-[[home]]
-name = "h1"
-address = "127.0.0.1:2813"
-secret = "home-secret"
-tries = 1
-"#;
+const KEYS: &str = "tries = 1";
 
 /// The client's IPv4 address.
 const CLIENT: [u8; 4] = [10, 0, 0, 1];
@@ -157,7 +144,7 @@ fn lives(alloc: Global, config: &Config) -> Result<bool, Fail> {
 
 #[test]
 fn a_request_is_taken_forwarded_and_answered(rt: HostRuntime) -> Result<(), Fail> {
-    let config = configured(rt.alloc(), CONFIGURATION)?;
+    let config = with_one_home(rt.alloc(), KEYS)?;
     let lived = lives(rt.alloc(), &config);
     drop(config);
     holds(&rt, lived?);

@@ -4,7 +4,7 @@
 
 use super::example::{CLIENT_PORT, checked, end, lane_of, moment, takes};
 use crate::comparing::holds_at;
-use crate::configured::configured;
+use crate::configured::with_one_home;
 use block_queue::BlockQueue;
 use rad_auth::{
     ACCOUNTING_REQUEST, ACCOUNTING_RESPONSE, PROXY_STATE, Secret, request_authenticator,
@@ -16,24 +16,8 @@ use rad_realms::Config;
 use std::alloc::Global;
 use std::test::Fail;
 
-const CONFIGURATION: &str = r#"
-listen = "127.0.0.1:1813"
-[[client]]
-address = "10.0.0.1"
-secret = "nas-secret"
-[[realm]]
-name = "example.org"
-home = "h1"
-[[home]]
-name = "h1"
-address = "127.0.0.1:2813"
-secret = "home-secret"
-tries = 1
-window = 2
-first_wait = 1000
-down_wait = 10000
-probe_every = 1000
-"#;
+const KEYS: &str =
+    "tries = 1\nwindow = 2\nfirst_wait = 1000\ndown_wait = 10000\nprobe_every = 1000";
 
 /// The Authenticator of each probe.
 const RANDOM: [u8; 16] = [0x5a; 16];
@@ -179,7 +163,7 @@ fn lives(alloc: Global, config: &Config) -> Result<usize, Fail> {
 
 #[test]
 fn a_queue_takes_its_rounds_and_no_more(rt: HostRuntime) -> Result<(), Fail> {
-    let config = configured(rt.alloc(), CONFIGURATION)?;
+    let config = with_one_home(rt.alloc(), KEYS)?;
     let played = lives(rt.alloc(), &config);
     drop(config);
     let played = played?;

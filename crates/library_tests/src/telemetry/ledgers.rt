@@ -2,9 +2,8 @@
 
 use crate::comparing::holds;
 use crate::telemetry::logs::{MemoryLog, has_logged, log_up_to};
+use ledger_state::{FileSum, LedgerFault, LedgerReading, LedgerState};
 use rad_log::LevelFilter;
-use rad_metrics::LedgerReading;
-use rad_telemetry::{FileSum, LedgerFault, LedgerState};
 use std::alloc::Global;
 use std::sync::atomic::Ordering;
 use std::test::Fail;

@@ -1,6 +1,6 @@
 use Rattle.std.proofs.Common.{◌≡◌, ℕ, ◌+◌, refl, ap}
 use Rattle.rad_advice.specs.Doubts.{client_doubts}
-use Rattle.rad_advice.proofs.Listed.{doubts_onward, doubts_end}
+use Rattle.rad_advice.proofs.EachDoubt.{doubts_onward, doubts_end}
 use Rattle.rad_advice.proofs.doubts.add_of_clients.Goals as goal
 
 pub loop-client-init : goal.loop-client-init

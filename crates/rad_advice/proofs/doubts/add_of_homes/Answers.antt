@@ -1,7 +1,7 @@
 use Rattle.std.proofs.Common.{◌≡◌, ℕ, ◌+◌, refl, ap, arith}
 use Rattle.std.proofs.lemmas.List.{length-take}
 use Rattle.rad_advice.specs.Doubts.{home_doubts}
-use Rattle.rad_advice.proofs.Listed.{doubts_onward, doubts_end}
+use Rattle.rad_advice.proofs.EachDoubt.{doubts_onward, doubts_end}
 use Rattle.rad_advice.proofs.doubts.add_of_homes.Goals as goal
 
 pub slice_bounds-add_of_home-end : goal.slice_bounds-add_of_home-end

@@ -1,7 +1,7 @@
 use Rattle.std.proofs.Common.{ap, ◌∙◌}
 use Rattle.std.specs.List.{list_any}
 use Rattle.std.specs.Str.{bytes_eq}
-use Rattle.rad_advice.proofs.Listed.{any_text}
+use Rattle.rad_advice.proofs.EachDoubt.{any_text}
 use Rattle.rad_advice.proofs.doubts.is_example.Goals as goal
 
 pub returns : goal.returns

@@ -1,5 +1,5 @@
 use Rattle.std.proofs.Common.{◌≤◌, length, suc}
-use Rattle.rad_console.specs.Pieces.{pieces_left}
+use Rattle.rad_replay.specs.Pieces.{pieces_left}
 use Rattle.rad_replay.proofs.replaying.split_input.Given as goal
 
 abbrev pub invariant-loop-line : goal.invariant-loop-line

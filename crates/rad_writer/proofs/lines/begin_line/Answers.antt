@@ -9,14 +9,14 @@ returns-clause-begin c =
     let its_line = c.begin_of-begin.result in
     IfOk-weaker c.write_begin.result
     (λ all. HasValueBehind c.args.out.items all.items (begin_value its_line))
-    (λ all. BeginsBehind c.args.names.now c.args.start c.args.next.now c.args.out.items all.items)
+    (λ all. BeginsBehind c.args.names.now c.args.start c.args.progress.now c.args.out.items all.items)
     (λ all value. record {
       line = its_line;
       run = c.begin_of-begin.ensures.run;
       file = c.begin_of-begin.ensures.file;
       sum = c.begin_of-begin.ensures.sum;
       before_is = c.begin_of-begin.ensures.before;
-      lanes = subst (AreStarts c.args.names.now.homes.items c.args.next.now) (sym c.begin_of-begin.ensures.lanes) c.in_ok-lanes.ensures;
+      lanes = subst (AreStarts c.args.names.now.homes.items c.args.start.is_gone c.args.progress.now) (sym c.begin_of-begin.ensures.lanes) c.in_ok-lanes.ensures;
       its_value = value;
     })
     c.write_begin.ensures.value

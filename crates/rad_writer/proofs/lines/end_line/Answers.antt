@@ -1,7 +1,7 @@
 use Rattle.std.proofs.Common.{Some, refl}
 use Rattle.std.proofs.lemmas.Result.{IfOk-weaker}
 use Rattle.ledger_lines.specs.Written.{HasValueBehind, end_value}
-use Rattle.ledger_lines.specs.declared.begin.End.{End}
+use Rattle.ledger_lines.specs.declared.end.End.{End}
 use Rattle.rad_writer.specs.RunLines.{EndsBehind}
 use Rattle.rad_writer.proofs.lines.end_line.Goals as goal
 

@@ -1,0 +1,97 @@
+//! The lines of entries, read and written.
+
+ghost use Rattle.std.specs.Prelude.{MatchResult, OnOk, codes, IfOk};
+ghost use Rattle.json.specs.Value.{value_view};
+ghost use Rattle.rad_ledger.specs.declared.entry.Entry.{Entry as TheEntry};
+ghost use Rattle.ledger_lines.specs.Lines.{Denies, HasText, IsEntry};
+ghost use Rattle.json.specs.Tree.{json_tokens};
+ghost use Rattle.ledger_lines.specs.internal.Adding.{Adds};
+ghost use Rattle.ledger_lines.specs.Written.{HasLineBehind, HasValueBehind, entry_value};
+
+use crate::about::{about_at, lane_members, request_members};
+use crate::faults::LineFault;
+use crate::reading::Octets;
+use crate::values::{has_only, octets_at, serial_at};
+use crate::writing::{close_line, digits, number};
+use json::{Value, Writer};
+use rad_ledger::Entry;
+use std::alloc::{AllocError, Global};
+
+/// The keys of an entry, in the order in which they are written.
+const ENTRY_KEYS: [&str; 21] = [
+    "type",
+    "run",
+    "time",
+    "home",
+    "lane",
+    "serial",
+    "record",
+    "client",
+    "port",
+    "identifier",
+    "authenticator",
+    "realm",
+    "realm_octets",
+    "session",
+    "session_octets",
+    "status",
+    "user",
+    "user_octets",
+    "sent",
+    "reply",
+    "response",
+];
+
+pub(crate) fn entry_of<'a>(value: &Value<'a>, room: &'a mut Octets) -> Result<Entry<'a>, LineFault>
+    requires { HasText (codes "type") (value_view value.now) (codes "entry") }
+    ensures { MatchResult result (λ entry. IsEntry (value_view value.now) entry) (λ fault. Denies fault ((entry : TheEntry) × IsEntry (value_view value.now) entry)) }
+{
+    if !has_only(value, &ENTRY_KEYS) {
+        return Err(LineFault::NotALine);
+    }
+    let Octets {
+        words,
+        sent,
+        reply,
+        response,
+        request: _,
+    } = room;
+    let about = about_at(value, words)?;
+    let serial = serial_at(value, "serial")?;
+    let sent = octets_at(value, "sent", sent)?;
+    let reply = octets_at(value, "reply", reply)?;
+    let response = octets_at(value, "response", response)?;
+    Ok(Entry {
+        about,
+        serial,
+        sent,
+        reply,
+        response,
+    })
+}
+
+/// Writes an entry, with its line end, behind what these octets are.
+///
+/// # Errors
+///
+/// Where memory is refused.
+pub fn write_entry(alloc: Global, entry: &Entry<'_>, out: Vec<u8>) -> Result<Vec<u8>, AllocError>
+    ensures line { IfOk result (λ all. HasLineBehind out.items all.items) }
+    ensures value { IfOk result (λ all. HasValueBehind out.items all.items (entry_value entry.now)) }
+{
+    let mut writer = Writer::new(out);
+    entry_members(alloc, &mut writer, entry)?;
+    close_line(writer)
+}
+
+fn entry_members(alloc: Global, writer: &mut Writer, entry: &Entry<'_>) -> Result<(), AllocError>
+    ensures { OnOk result (Adds writer.old writer.new (json_tokens (entry_value entry.now))) }
+{
+    lane_members(alloc, writer, "entry", &entry.about)?;
+    number(writer, "serial", entry.serial)?;
+    request_members(alloc, writer, &entry.about)?;
+    digits(alloc, writer, "sent", entry.sent)?;
+    digits(alloc, writer, "reply", entry.reply)?;
+    digits(alloc, writer, "response", entry.response)?;
+    writer.end_object()
+}

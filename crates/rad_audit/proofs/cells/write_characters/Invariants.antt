@@ -1,8 +1,0 @@
-use Rattle.std.specs.Fmt.{HasWritten, IsPlainFormatter}
-use Rattle.std.specs.List.{flat_map}
-use Rattle.rad_audit.specs.Cells.{character_cell}
-use Rattle.rad_audit.proofs.cells.write_characters.Given as goal
-
-abbrev pub invariant-loop-character : goal.invariant-loop-character
-invariant-loop-character g l =
-    IsPlainFormatter l.initial.f → HasWritten g.W.Write.write_str_gives l.initial.f (flat_map character_cell l.yielded) l.f

@@ -1,0 +1,18 @@
+use Rattle.std.proofs.Common.{rules, [], sym, ap, ◌∙◌, map-id}
+use Rattle.std.proofs.Output.{has_written_append, has_written_of_eq}
+use Rattle.std.proofs.lemmas.Iterator.{YieldsList-from_chars}
+use Rattle.std.proofs.lemmas.Iterator.Consumers.{YieldsList-end}
+use Rattle.std.proofs.lemmas.List.{flat_map_more}
+use Rattle.std.specs.List.{flat_map}
+use Rattle.rad_audit.specs.Shown.{character_text}
+use Rattle.rad_audit.proofs.shown.write_characters.Goals as goal
+
+pub loop-character-preserved : goal.loop-character-preserved
+loop-character-preserved g c = λ plain.
+    has_written_of_eq _ _ _ _ _ (flat_map_more (character_text c.args.within) [] c.loop-character.yielded c.in-Some.character)
+    (has_written_append _ _ _ _ _ _ (c.loop-character.invariant plain) (search rules))
+
+pub returns : goal.returns
+returns g c =
+    let end = YieldsList-end (YieldsList-from_chars c.args.word.now c.utf8.word cc) c.loop-character.yielded _ c.loop-character.yielded_by _ _ c.in-None.is c.next.ensures.steps in
+    λ plain ok. has_written_of_eq _ _ _ _ _ (ap (flat_map (character_text c.args.within)) (sym (map-id c.loop-character.yielded) ∙ end.0)) (c.loop-character.invariant plain)

@@ -1,0 +1,9 @@
+//! What is read as a whole: a file up to a bound ([`read_at_most`]), and octets as a configuration ([`read_configuration`]).
+//! `specs/Configurations.antt` defines which octets are one.
+#![tactic(auto)]
+
+mod bounded;
+mod configuration;
+
+pub use bounded::read_at_most;
+pub use configuration::read_configuration;

@@ -1,4 +1,0 @@
-use Rattle.rad_metrics.proofs.file_sums.FileSumDisplay.fmt.Goals as goal
-
-pub returns-clause-writes : goal.returns-clause-writes
-returns-clause-writes g c = c.write.ensures.writes

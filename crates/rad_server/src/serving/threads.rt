@@ -1,0 +1,141 @@
+//! One thread for each worker.
+
+ghost use denote.Param.Send.{IsSend, IsSync};
+ghost use Rattle.std.specs.Prelude.{IsSome};
+
+use super::bounds::{Host, OwnedLedger, OwnedWire, SharedGate};
+use super::working::Service;
+use crate::console::{Console, attend};
+use crate::faults::ServeFault;
+use crate::wires::Wires;
+use rad_desk::Inlet;
+use rad_tables::Moment;
+use std::io::{Read, Write};
+use std::thread::{self, JoinHandle, Scope};
+
+/// What the worker of the clients' side returns at its end.
+#[derive(Drop)]
+pub(crate) struct FrontEnd<L: Drop> {
+    pub(crate) inlets: Vec<Inlet>,
+    pub(crate) ledger: L,
+    /// The moment of its end.
+    pub(crate) moment: Moment,
+}
+
+/// What the workers leave, and why they ended.
+#[derive(Drop)]
+pub(crate) struct Worked<L: Drop> {
+    pub(crate) front: FrontEnd<L>,
+    /// `Ok` if the commands ended.
+    pub(crate) outcome: Result<(), ServeFault>,
+}
+
+/// Starts a thread for each wire, writes what the output holds once all have begun, and obeys the commands. The thread
+/// of the front has the ledger. All threads have ended when it returns.
+///
+/// # Errors
+///
+/// `Threads` if the thread of the front can't be started. No request was accepted then.
+pub(crate) fn work<R, W, G, L, I, O>(
+    service: Service<'_, R, G>,
+    wires: Wires<W>,
+    ledger: L,
+    inlets: Vec<Inlet>,
+    console: &mut Console<I, O>,
+) -> Result<Worked<L>, ServeFault>
+where
+    R: Host,
+    W: OwnedWire,
+    G: SharedGate,
+    L: OwnedLedger,
+    I: Read + Drop,
+    O: Write + Drop,
+    requires keeps { (wire : W) → IsSome (W.log wire) }
+{
+    thread::scope(
+        thread::scope_env(),
+        service.rt,
+        move |scope| -> Result<Worked<L>, ServeFault>
+            requires { IsSync R.row × IsSend W.row × IsSync G.row × IsSend L.row × ((wire : W) → IsSome (W.log wire)) }
+        {
+            let Wires { front, lanes } = wires;
+            let front = start_front(scope, service, inlets, front, ledger)?;
+            let outcome = if start_lanes(scope, service, lanes) {
+                attend(service, console)
+            } else {
+                Err(ServeFault::Threads)
+            };
+            service.supervisor.stop();
+            let front = front.join(service.rt);
+            Ok(Worked { front, outcome })
+        },
+    )
+}
+
+/// Starts the worker of the clients' side, which returns the inlets and the ledger at its end.
+fn start_front<'s, E, R, W, G, L>(
+    scope: &Scope<'s, E>,
+    service: Service<'s, R, G>,
+    inlets: Vec<Inlet>,
+    wire: W,
+    ledger: L,
+) -> Result<JoinHandle<FrontEnd<L>>, ServeFault>
+where
+    R: Host + 's,
+    W: OwnedWire + 's,
+    G: SharedGate + 's,
+    L: OwnedLedger + 's,
+    requires keeps { (wire : W) → IsSome (W.log wire) }
+{
+    let worker = scope.spawn(
+        move || -> FrontEnd<L>
+            requires { (wire : W) → IsSome (W.log wire) }
+        {
+            let mut inlets = inlets;
+            let mut wire = wire;
+            let mut ledger = ledger;
+            service.work_in_front(inlets.as_mut_slice(), &mut wire, &mut ledger);
+            FrontEnd {
+                inlets,
+                ledger,
+                moment: wire.now(),
+            }
+        },
+    );
+    match worker {
+        Ok(worker) => Ok(worker),
+        Err(_) => Err(ServeFault::Threads),
+    }
+}
+
+/// Starts a worker for each of these wires of the lanes, in order, and returns whether all were started. After one that
+/// could not be started it starts no more.
+fn start_lanes<'s, E, R, W, G>(
+    scope: &Scope<'s, E>,
+    service: Service<'s, R, G>,
+    wires: Vec<W>,
+) -> bool
+where
+    R: Host + 's,
+    W: OwnedWire + 's,
+    G: SharedGate + 's,
+    requires keeps { (wire : W) → IsSome (W.log wire) }
+{
+    for (lane, wire) in wires.into_iter().enumerate() {
+        let Ok(lane) = u16::try_from(lane) else {
+            return false;
+        };
+        let worker = scope.spawn(
+            move || -> ()
+                requires { (wire : W) → IsSome (W.log wire) }
+            {
+                let mut wire = wire;
+                service.work_on_lane(lane, &mut wire);
+            },
+        );
+        if worker.is_err() {
+            return false;
+        }
+    }
+    true
+}
