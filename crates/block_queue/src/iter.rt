@@ -57,7 +57,6 @@ impl<'a, T> Iterator for Iter<'a, T> {
     }
 }
 
-/// Returns the item at an index of a block, if there is a block.
 fn item_at<'a, T>(block: Option<&'a Block<T>>, index: usize) -> Option<&'a T>
     ensures item { option_copied result ≡ slice_get (left_in block.entry 0) index }
     ensures within { IsSome result → index < 32 }

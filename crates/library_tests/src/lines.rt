@@ -7,7 +7,6 @@ use std::alloc::{AllocError, Global};
 use std::process::Abort;
 use std::test::Fail;
 
-/// Writes a line, with its line end.
 fn written(alloc: Global, line: &Line<'_>) -> Result<Vec<u8>, AllocError> {
     let out = Vec::new(alloc);
     match line {
@@ -19,7 +18,6 @@ fn written(alloc: Global, line: &Line<'_>) -> Result<Vec<u8>, AllocError> {
     }
 }
 
-/// Whether octets are this text and a line end.
 fn is_line_of(octets: &[u8], text: &str) -> bool {
     match octets.split_last() {
         Some((b'\n', line)) => line == text.as_bytes(),

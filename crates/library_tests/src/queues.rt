@@ -33,7 +33,6 @@ const SHORTENED: &[Shortened] = &[
 /// How many numbers are popped from a joined queue.
 const POPPED: &[u64] = &[0, 1, 31, 32, 33, 64, 96];
 
-/// A queue of the numbers from `first` on, from which as many were popped before.
 fn shortened(rt: &impl Abort, alloc: Global, first: u64, (popped, left): Shortened) -> Numbers {
     let mut numbers = Numbers::from(alloc, first.wrapping_sub(popped));
     numbers.push(rt, popped.wrapping_add(left));
@@ -144,7 +143,6 @@ impl Drop for Counted<'_> {
     }
 }
 
-/// Pushes 65 items, and pops and drops 40 of them.
 fn push_and_pop<'a>(
     queue: &mut BlockQueue<Counted<'a>>,
     drops: &'a AtomicU64,

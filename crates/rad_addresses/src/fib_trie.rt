@@ -28,7 +28,6 @@ pub fn list_local(alloc: Global, text: &str) -> Result<Vec<[u8; 4]>, AllocError>
     Ok(listed)
 }
 
-/// Returns the text of the address that a line names, if it names one.
 fn name_in(line: &str) -> Option<&str>
     ensures { option_copied result ≡ named_in line.now }
 {

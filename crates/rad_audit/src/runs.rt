@@ -127,7 +127,6 @@ impl Runs {
         }
     }
 
-    /// Returns the file of the greatest number of the run of a file that is named, if one was read.
     fn newest_of(&self, named: &NamedFile) -> Option<ReadFile> {
         let place = self.places.get(&named.run()?)?;
         self.runs.get(*place)?.newest

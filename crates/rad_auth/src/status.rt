@@ -83,7 +83,6 @@ pub fn make_status(
     write_status(identifier, authenticator, &value, datagram);
 }
 
-/// Writes a Status-Server with this Value of its Message-Authenticator.
 fn write_status(identifier: u8, authenticator: [u8; 16], value: &[u8; 16], datagram: &mut Datagram)
     ensures { datagram.new ≡ packet_text 12 identifier authenticator (attribute_text (record { kind = 80; value = value.now })) }
 {

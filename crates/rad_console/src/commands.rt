@@ -218,7 +218,6 @@ impl<R: Read + Drop> Commands<R> {
         }
     }
 
-    /// Returns the command of a last line without a line feed.
     fn last(&mut self) -> Option<Command>
         ensures rest { (self.new.reader ≡ self.old.reader) × (self.new.unread ≡ self.old.unread) × (self.new.line ≡ []) }
         ensures last { MatchOption result (self.old.line ≡ []) (λ command. (self.old.line ≢ []) × Asks self.old.line command) }

@@ -16,7 +16,6 @@ impl Gap {
     ghost use Rattle.std.specs.Prelude.{◌≤◌};
     ghost use Rattle.rad_ledger.specs.Counting.{LeavesGap};
 
-    /// Returns the serials from `next` on that are below `serial`, if there are any.
     fn between(next: u64, serial: u64) -> Option<Gap>
         requires { next ≤ serial }
         ensures { LeavesGap next serial result }

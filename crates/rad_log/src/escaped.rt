@@ -55,7 +55,6 @@ impl fmt::Display for EscapedOctet {
     }
 }
 
-/// Returns whether an octet is printed as it is.
 fn is_printed(also: Option<u8>, octet: u8) -> bool
     ensures { result ≡ is_plain also octet }
 {

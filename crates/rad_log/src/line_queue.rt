@@ -123,7 +123,6 @@ impl LineQueue {
         }
     }
 
-    /// Writes the lines that wait.
     fn write_batch<R: Wait>(&self, rt: &R) {
         let mut outlet = self.outlet.lock(rt);
         outlet.take(&mut self.room.lock(rt));

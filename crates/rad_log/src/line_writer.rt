@@ -135,7 +135,6 @@ pub fn line_in<'a, D: Display>(room: &'a mut [u8], line: &D) -> Option<&'a [u8]>
     room.get(..count)
 }
 
-/// Returns how many lines end in these octets.
 fn lines_in(octets: &[u8]) -> u64 {
     let mut count = 0u64;
     for octet in octets {

@@ -176,7 +176,6 @@ fn put(buffer: &mut [u8], place: usize, octets: &[u8])
     buffer[place..end].copy_from_slice(octets);
 }
 
-/// Writes a packet's Length.
 fn put_length(packet: &mut [u8], count: usize)
     requires fits { count < 65536 }
     requires room { 20 ≤ length packet.old }

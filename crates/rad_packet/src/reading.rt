@@ -53,7 +53,6 @@ fn first_invalid(octets: &[u8]) -> Option<usize>
     None
 }
 
-/// Returns the Length of the attribute at the front of these octets, if there is a valid one.
 fn first_length(octets: &[u8]) -> Option<usize>
     ensures { MatchOption result (BeginsNoAttribute octets.now) (λ len. BeginsAttribute octets.now len) }
 {

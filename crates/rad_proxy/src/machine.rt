@@ -114,7 +114,6 @@ where
         read_system_file(&self.rt, path, text);
     }
 
-    /// Counts them as [`count_own_descriptors`] does.
     fn count_descriptors(&self) -> u64 {
         count_own_descriptors(&self.rt)
     }
@@ -124,7 +123,6 @@ impl<R: Files> TraceText for RuntimeMachine<R>
 where
     R::File: Drop,
 {
-    /// Reads the text as [`read_trace_text`] does.
     fn read_trace(&self, path: &str, text: &mut Vec<u8>) -> Result<(), TraceFault> {
         read_trace_text(&self.rt, path, text)
     }

@@ -65,7 +65,6 @@ fn read_task<R: Env + AllocGlobal>(rt: &R, alloc: Global) -> Result<Task, Fault>
     read_words(alloc, words.as_slice())
 }
 
-/// Prints the counts of the configuration in a file, and returns the status.
 fn print_counts<H: Host>(rt: &H, alloc: Global, file: &str) -> Result<u8, Fault> {
     let log = open_log_if_asked(rt, alloc)?;
     let counts = check_file(rt, alloc, &log, file)?;

@@ -165,7 +165,6 @@ pub fn tell_doubts<L: Log>(alloc: Global, log: &L, text: Option<&ConfigText<'_>>
     }
 }
 
-/// Logs how many are not listed, if there are such.
 fn tell_more<L: Log>(log: &L, told: Told, count: usize) {
     if count == 0 {
         return;

@@ -108,7 +108,6 @@ fn build(packet: &Packet<'_>, sender: Sender<'_>, octets: &mut Vec<u8>) -> Resul
     }
 }
 
-/// Writes a packet that is made, with its changes.
 fn build_made(
     template: &Template<'_>,
     changes: &Changes<'_>,

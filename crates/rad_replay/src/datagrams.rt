@@ -62,7 +62,6 @@ pub fn parse_packet<'a>(words: &mut Pieces<'a>) -> Option<Packet<'a>> {
     parse_made(word, words)
 }
 
-/// Reads how a packet is made and changed, from this word on.
 fn parse_made<'a>(word: &'a [u8], words: &mut Pieces<'a>) -> Option<Packet<'a>> {
     let (changes, word) = parse_changes(word, words)?;
     let template = parse_template(word, words)?;

@@ -57,7 +57,6 @@ fn parse_line<'a>(words: &mut Pieces<'a>) -> Option<Event<'a>> {
     }
 }
 
-/// Reads an event, from this word on.
 fn parse_event<'a>(first: &[u8], words: &mut Pieces<'a>) -> Option<Event<'a>> {
     match first {
         b"nas" => parse_nas(words),
@@ -70,7 +69,6 @@ fn parse_event<'a>(first: &[u8], words: &mut Pieces<'a>) -> Option<Event<'a>> {
     }
 }
 
-/// Reads an event in which a lane acts, from this word on.
 fn parse_act<'a>(first: &[u8], words: &mut Pieces<'a>) -> Option<Event<'a>> {
     let lane = next_u16(words)?;
     match first {

@@ -97,7 +97,6 @@ fn is_digit(octet: u8) -> bool
     matches!(octet, b'0'..=b'9' | b'a'..=b'f')
 }
 
-/// Returns the value of a digit, and 0 for any other octet.
 fn value_of(digit: u8) -> u8
     ensures value { result ≡ digit_value digit }
     ensures bound { result < 16 }

@@ -49,7 +49,6 @@ fn read_config(alloc: Global, configuration: &[u8], events: &[u8]) -> Result<Con
     }
 }
 
-/// Runs events over a configuration, and writes the results.
 fn run<T: Wait, W: Write + Drop>(
     rt: &T,
     alloc: Global,

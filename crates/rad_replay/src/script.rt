@@ -156,7 +156,6 @@ impl<'a> Script<'a> {
         }
     }
 
-    /// Writes the result of a NAS's datagram.
     fn nas<R: Wait, W: Write>(
         &mut self,
         rt: &R,
@@ -185,7 +184,6 @@ impl<'a> Script<'a> {
         print(output, &NasLine { outcome, written })
     }
 
-    /// Writes the result of a datagram of a lane's home server.
     fn home<R: Wait, W: Write>(
         &mut self,
         rt: &R,
@@ -216,7 +214,6 @@ impl<'a> Script<'a> {
         print(output, &HomeLine { lane, outcome })
     }
 
-    /// Writes the result of a lane's step.
     fn step<R: Wait, W: Write>(&mut self, rt: &R, lane: u16, output: &mut W) -> Result<(), Halt> {
         if lane >= self.proxy.lanes() {
             return Err(Halt::Malformed);

@@ -102,7 +102,6 @@ impl Ports {
     }
 }
 
-/// Makes `count` source ports that have sent nothing.
 fn new_ports(alloc: Global, count: u32) -> Result<Vec<LastSent>, AllocError> {
     let mut ports = Vec::with_capacity(alloc, count as usize)?;
     for _ in 0..count {

@@ -219,7 +219,6 @@ impl Book {
     }
 }
 
-/// Returns the earlier of `least` and `moment`, of which only moments after `now` count.
 fn earlier(least: Option<u64>, moment: u64, now: u64) -> Option<u64> {
     if moment <= now {
         return least;

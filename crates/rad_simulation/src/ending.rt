@@ -18,7 +18,6 @@ pub fn compare_end(report: &mut Report, books: &[Book]) -> Result<(), Rule> {
     compare_queued(report, books)
 }
 
-/// Compares what is left of a lane.
 fn compare_lane(end: &LaneEnd, book: &Book) -> Result<(), Rule> {
     if end.lane != book.lane || end.counts != book.counts() {
         return Err(Rule::CLOSE_COUNTS);
@@ -45,7 +44,6 @@ fn are_accepted(stamps: &[Stamp], book: &Book) -> bool {
     stamps.len() as u64 == book.held()
 }
 
-/// Returns whether a stamp is that of the request of a number.
 fn is_stamp(stamp: &Stamp, number: u64, book: &Book) -> bool {
     let Some(asked) = book.at(number) else {
         return false;
@@ -86,7 +84,6 @@ fn is_answer(answer: &Answered, serial: u64, number: u64, book: &Book) -> bool {
         && answer.reply().response() == asked.response.as_slice()
 }
 
-/// Returns whether the end has the outstanding requests of the book, each under its pair.
 fn are_outstanding(end: &LaneEnd, book: &Book) -> bool {
     for out in book.out.as_slice() {
         if !is_outstanding(end, out) {
@@ -152,7 +149,6 @@ fn compare_queued(report: &mut Report, books: &[Book]) -> Result<(), Rule> {
     Rule::CLOSE_QUEUED.unless(report.queued.is_empty())
 }
 
-/// Returns whether the next record of the queue is the request of this number.
 fn is_next_queued(report: &mut Report, number: u64, book: &Book) -> bool {
     match (report.queued.pop_front(), book.at(number)) {
         (Some(record), Some(asked)) => {

@@ -219,7 +219,6 @@ fn take(book: &mut Book, walk: &mut Walk<'_>) {
     walk.meets(Sign::Took(book.lane, serial), &[], Rule::TOOK);
 }
 
-/// Expects that these octets are sent to a client, from a socket.
 fn answer(socket: u16, client: Endpoint, octets: &[u8], rule: Rule, walk: &mut Walk<'_>) {
     if let Some(gone) = walk.sends(octets, rule) {
         walk.keeps(Rule::CLIENT, gone.to == client);

@@ -56,7 +56,6 @@ fn obey<R: Env + AllocGlobal + Print + Wait>(rt: &R) -> u8 {
     }
 }
 
-/// Runs `count` seeds, from `first` on.
 fn run_all<R: AllocGlobal + Print + Wait>(rt: &R, first: u64, count: u64) -> u8 {
     let mut turns: u64 = 0;
     for place in 0..count {

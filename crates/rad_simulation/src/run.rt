@@ -105,7 +105,6 @@ fn books_of(alloc: Global, setting: &Setting) -> Result<Books, Rule> {
     Ok(Books { books, default })
 }
 
-/// Closes a proxy, and compares its report with the books.
 fn close(alloc: Global, proxy: Proxy, inlets: Vec<Inlet>, books: &[Book]) -> Result<(), Rule> {
     match proxy.close(alloc, inlets) {
         Ok(mut report) => {
@@ -210,7 +209,6 @@ impl Run {
             .carry(&mut self.chance, &self.setting, self.clock, None, mail)
     }
 
-    /// Drains a lane.
     fn drain(&mut self, rt: &impl Wait, proxy: &Proxy) -> Result<(), Rule> {
         let place = self.chance.below(self.books.books.len() as u64) as usize;
         match self.books.books.as_mut_slice().get_mut(place) {
@@ -353,7 +351,6 @@ impl Run {
     }
 }
 
-/// Compares the counts of all lanes.
 fn compare_counts(rt: &impl Wait, proxy: &Proxy, books: &[Book]) -> Result<(), Rule> {
     for book in books {
         let is_right = book.lane < proxy.lanes() && proxy.counts(rt, book.lane) == book.counts();

@@ -189,7 +189,6 @@ fn tables(place: u16) -> &'static str {
     }
 }
 
-/// Returns the keys of a home server's limits, and their numbers.
 fn keys(limits: &LimitNumbers) -> [(&'static str, u32); 10] {
     [
         ("window", limits.window),

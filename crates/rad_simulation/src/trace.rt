@@ -148,7 +148,6 @@ pub struct TraceWire<'a> {
 }
 
 impl<'a> TraceWire<'a> {
-    /// Returns what arrives next.
     fn arrive(&mut self) -> Came {
         match self.arrivals.pop() {
             Some(Arrival { wait, came }) => {

@@ -33,7 +33,6 @@ impl<T> Cell<T> {
         }
     }
 
-    /// Changes the entry, if there is one.
     fn change<C: Change<T>>(&mut self, change: &C)
         ensures { entry_of self.new ≡ option_map (C.changed change.now) (entry_of self.old) }
     {

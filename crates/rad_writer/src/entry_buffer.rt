@@ -130,7 +130,6 @@ fn take_octets(packets: &mut Consumer<u8, Global>, count: usize, room: &mut Vec<
     packets.pop_entire_slice(front).is_ok()
 }
 
-/// Returns the parcel of a head, whose packets are the first of these octets.
 fn parcel_of(head: ParcelHead, octets: &[u8]) -> Parcel<'_>
     requires { octets_of head ≤ length octets.now }
     ensures { HasPackets head (take (octets_of head) octets.now) result }

@@ -87,7 +87,6 @@ impl ParcelGiver {
         places.saturating_sub(1) < PLACES / 2 || packets.saturating_sub(octets) < ROOM / 2
     }
 
-    /// Returns whether a parcel is beyond the share of its client, which is one of so many and holds so much.
     fn is_beyond(&mut self, head: &ParcelHead, clients: usize, held: Taking) -> bool
         requires { Fits head.now }
         ensures looked { ProducerLooked self.old.heads self.new.heads × ProducerLooked self.old.packets self.new.packets }
@@ -102,7 +101,6 @@ impl ParcelGiver {
     }
 }
 
-/// Returns how much of a ring is free: what is known, if that is enough, or what a look shows.
 fn free_of<T>(ring: &mut Producer<T, Global>, enough: usize) -> usize
     ensures looked { ProducerLooked ring.old ring.new }
     ensures value { result ≡ known_free ring.new }

@@ -117,7 +117,6 @@ impl<R: Clock> LedgerInlet<'_, R> {
     }
 }
 
-/// Adds what an entry takes of the buffer to what the client in a row put.
 fn add_put(puts: &mut Vec<Taking>, row: Option<usize>, parcel: &Parcel<'_>)
     ensures { vec_len puts.new ≡ vec_len puts.old }
 {

@@ -40,7 +40,6 @@ pub(crate) fn line_of(
     }
 }
 
-/// Writes the line of the parcel of the response of this serial behind what these octets are.
 fn entry_line(
     alloc: Global,
     names: &RunNames,
@@ -62,7 +61,6 @@ fn entry_line(
     write_entry(alloc, &entry, out)
 }
 
-/// Writes the line of the parcel of a request that is left behind what these octets are.
 fn left_line(
     alloc: Global,
     names: &RunNames,
@@ -87,7 +85,6 @@ fn left_line(
     write_left(alloc, &left, out)
 }
 
-/// Returns the same text, which is lent.
 fn lent(text: &Option<String>) -> Option<&str>
     ensures { option_copied result ≡ option_map string_bytes text.now }
 {
@@ -107,7 +104,6 @@ fn accepted_text(alloc: Global, time: Option<u64>) -> Result<Option<String>, All
     }
 }
 
-/// Returns the request that is left that a parcel's head and packet are, with these texts for its times.
 fn left_of<'a>(
     names: &'a RunNames,
     head: ParcelHead,
@@ -135,7 +131,6 @@ fn time_text(alloc: Global, time: u64) -> Result<String, AllocError>
     format!(in alloc; "{moment}")
 }
 
-/// Returns the entry of this serial that a parcel's head and packets are, with this text for its time.
 fn entry_of<'a>(
     names: &'a RunNames,
     head: ParcelHead,
@@ -247,7 +242,6 @@ pub(crate) fn begin_line(
     write_begin(alloc, &begin, out)
 }
 
-/// Returns what begins a file, with this text for its time, and these lanes.
 fn begin_of<'a>(
     names: &RunNames,
     time: &'a str,
@@ -272,7 +266,6 @@ fn begin_of<'a>(
     }
 }
 
-/// Returns a file that was found, as a line names it.
 fn file_before(found: Option<&FoundFile>) -> Option<FileBefore<'_>>
     ensures { NamesIfAny (option_copied found.entry) result }
 {

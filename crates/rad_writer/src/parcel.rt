@@ -143,7 +143,6 @@ impl<'a> Parcel<'a> {
     }
 }
 
-/// Returns when a request was accepted that is of this age at this time.
 fn accepted_at(time: u64, age: Option<u64>) -> Option<u64>
     ensures { result ≡ option_map (λ its. time - its) age }
 {

@@ -140,7 +140,6 @@ impl<T> Block<T> {
         None
     }
 
-    /// Returns the item at an index.
     #[inline]
     fn get(&self, index: usize) -> &T
         requires { index < length self.now.items }

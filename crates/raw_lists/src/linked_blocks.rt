@@ -29,7 +29,6 @@ impl<T> Model for LinkedBlocks<T> {
 }
 
 impl<T> LinkedBlocks<T> {
-    /// Returns the last block.
     #[inline]
     fn last(&self) -> &Block<T>
         ensures { EndsWith self.now result.now }

@@ -32,7 +32,6 @@ impl<T, A: Allocator> Model for Region<T, A> {
 
 unsafe impl<T: Send, A: Allocator + Send> Send for Region<T, A> {}
 
-/// Returns whether 32 values have a layout.
 fn has_layout<T>() -> bool
     ensures { result ≡ true → Fits T.row 32 }
 {

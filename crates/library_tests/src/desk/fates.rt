@@ -160,7 +160,6 @@ fn live(
     true
 }
 
-/// Counts what is outstanding at the end of a lane.
 fn find_outstanding(end: &LaneEnd, fates: &mut Fates) -> bool {
     for identifier in 0..=255 {
         let slot = Slot {

@@ -35,7 +35,6 @@ struct Comparer {
 }
 
 impl Comparer {
-    /// Returns whether all was told, and as it is.
     fn is_content(&self) -> bool {
         self.is_right && self.told == LEFT.len() && self.lanes == 2
     }
@@ -62,7 +61,6 @@ impl Ledger for Comparer {
     }
 }
 
-/// Returns whether this is what is left at a place.
 fn is_next(told: &LeftRecord<'_>, place: usize) -> bool {
     let Some((count, state, sendings)) = LEFT.get(place) else {
         return false;

@@ -232,7 +232,6 @@ impl Wire for TurnWire {
     }
 }
 
-/// Calls a worker for one turn.
 fn work(
     rt: &impl Wait,
     alloc: Global,

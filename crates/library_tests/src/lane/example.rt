@@ -77,7 +77,6 @@ const ROWS: &[Row<'static>] = &[
     (Turned(0, 1, 1), &RESPONSE),
 ];
 
-/// Runs these events on a lane, and returns whether they gave what they should.
 fn runs(alloc: Global, lane: &mut Lane<BlockQueue<Record>>, events: &[Event<'_, '_>]) -> bool
     requires { TakesEach lane.old events.now }
 {

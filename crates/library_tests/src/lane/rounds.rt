@@ -83,7 +83,6 @@ fn accepts(
     }
 }
 
-/// Steps a lane at one moment until it is idle. Returns how many steps were not idle, and the replies to what was sent.
 fn step_until_idle(
     alloc: Global,
     lane: &mut Lane<BlockQueue<Record>>,

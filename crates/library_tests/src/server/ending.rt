@@ -98,7 +98,6 @@ impl<R: Clock> Read for Client<'_, R> {
     }
 }
 
-/// Returns whether the result reports that this worker ended.
 fn is_told(ran: Result<EndLine, ServeFault>, worker: Worker) -> bool {
     matches!(ran, Err(ServeFault::Ended(ended)) if ended == worker)
 }

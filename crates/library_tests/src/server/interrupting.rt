@@ -7,7 +7,6 @@ use std::os::fd::AsRawFd;
 use std::os::unix::net::UnixStream;
 use std::test::Fail;
 
-/// Returns how many octets are read; none if the read is interrupted.
 fn read(reader: &mut Interruptible<UnixStream>) -> Option<usize> {
     match reader.read(&mut [0; 8]) {
         Ok(count) => Some(count),

@@ -206,7 +206,6 @@ impl Sent {
     }
 }
 
-/// Returns a wire over which these datagrams come from a port of an address, once as many were sent.
 fn wire<'a, R>(
     clock: &'a R,
     address: [u8; 4],

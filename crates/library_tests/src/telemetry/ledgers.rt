@@ -136,7 +136,6 @@ const ERRORS: &str =
     event=ledger-left count=1 left=2\n\
     event=ledger-missing lane=1 from=4294967305 to=4294967305\n";
 
-/// Lets a step happen to a ledger.
 fn happen(rt: &impl Clock, ledger: &LedgerState, log: &MemoryLog, step: Step) {
     match step {
         Step::Put(time) => ledger.count_put(time),
@@ -162,7 +161,6 @@ fn happen(rt: &impl Clock, ledger: &LedgerState, log: &MemoryLog, step: Step) {
     }
 }
 
-/// Returns how many entries of the client in a row were dropped, if there is such a client.
 fn dropped_of(reading: &LedgerReading<'_>, client: usize) -> Option<u64> {
     let dropped = reading.client_dropped.get(client)?;
     Some(dropped.load(Ordering::SeqCst))

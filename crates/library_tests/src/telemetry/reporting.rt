@@ -97,7 +97,6 @@ fn report<R: Clock>(telemetry: &Telemetry<'_, MemoryLog, R>) -> bool {
         && counts.get(3, Event::plain(Counted::WentDown)) == 0
 }
 
-/// Returns whether a lane is asked for its standing once all are, until it has told it.
 fn asks_until_told<R: Clock>(telemetry: &Telemetry<'_, MemoryLog, R>) -> bool {
     let before = telemetry.asks(0).standing;
     telemetry.numbers().ask_each();

@@ -84,7 +84,6 @@ impl SystemFiles for Table<'_> {
     }
 }
 
-/// Returns the values of a metric in a text of all metrics, in order.
 fn values_of(alloc: Global, text: &str, metric: &str) -> Result<Vec<u64>, AllocError> {
     let mut values = Vec::new(alloc);
     for line in text.lines() {
@@ -97,7 +96,6 @@ fn values_of(alloc: Global, text: &str, metric: &str) -> Result<Vec<u64>, AllocE
     Ok(values)
 }
 
-/// Returns what is told by this metric of the sockets, once this table is read.
 fn told<R: Clock + Wait>(
     rt: &R,
     alloc: Global,
@@ -174,7 +172,6 @@ fn bind_all<R: Clock + Wait>(rt: &R, numbers: &Numbers<'_, R>) {
     }
 }
 
-/// Reads those that are bound, again and again.
 fn read_often<R: Clock + Wait>(
     rt: &R,
     alloc: Global,

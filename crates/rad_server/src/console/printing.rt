@@ -186,7 +186,6 @@ impl<O: Write + Drop> Output<O> {
     }
 }
 
-/// Returns the first line of a text with its line feed, or its first `most` octets if it is longer.
 fn first_line(text: &[u8], most: usize) -> &[u8] {
     let line = match find_feed(text) {
         Some(place) => place.saturating_add(1),

@@ -122,7 +122,6 @@ fn look_at(output: RawFd, input: RawFd) -> (bool, bool) {
     (has_failed || of_output.revents != 0, of_input.revents != 0)
 }
 
-/// Returns a descriptor that is to be polled for these events.
 fn polled(fd: RawFd, events: i16) -> pollfd {
     pollfd {
         fd,

@@ -70,7 +70,6 @@ impl Kept {
         Ok(self.lose_of_most(client))
     }
 
-    /// Puts a datagram into the queue at a place, and returns the one that is lost by that.
     fn put(&mut self, place: usize, datagram: Waiting) -> Result<Option<Waiting>, AllocError> {
         match self.queues.get_mut(place) {
             Some(queue) => queue.put(datagram),

@@ -72,7 +72,6 @@ where
     )
 }
 
-/// Starts the worker of the clients' side, which returns the inlets and the ledger at its end.
 fn start_front<'s, E, R, W, G, L>(
     scope: &Scope<'s, E>,
     service: Service<'s, R, G>,

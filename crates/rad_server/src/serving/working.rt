@@ -68,7 +68,6 @@ impl<R: Wait, G: Gate> Service<'_, R, G> {
         self.supervisor.end(Worker::Lane(lane));
     }
 
-    /// Serves a lane and its home server, if there is such a lane.
     fn work_for<W: Wire>(self, lane: u16, home: &Home, wire: &mut W)
         ensures { Passes (WorksForHome lane home.now) (W.log wire.old) (W.log wire.new) }
     {

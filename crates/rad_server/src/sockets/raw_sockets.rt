@@ -75,7 +75,6 @@ fn share(descriptor: RawFd, is_shared: i32) -> Result<()> {
     check(unsafe { setsockopt(descriptor, SOL_SOCKET, SO_REUSEPORT, &value, 4) })
 }
 
-/// Returns an address and a port as C reads them.
 fn raw_address(endpoint: Endpoint) -> [u8; _SS_SIZE] {
     let mut raw = [0; _SS_SIZE];
     raw[..2].copy_from_slice(&(AF_INET as u16).to_ne_bytes());
@@ -84,7 +83,6 @@ fn raw_address(endpoint: Endpoint) -> [u8; _SS_SIZE] {
     raw
 }
 
-/// Returns a number as the value of a socket option, in the room for any such value.
 fn option_value(number: i32) -> [u8; 16] {
     let [a, b, c, d] = number.to_ne_bytes();
     [a, b, c, d, 0, 0, 0, 0, 0, 0, 0, 0, 0, 0, 0, 0]

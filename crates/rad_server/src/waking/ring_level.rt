@@ -37,7 +37,6 @@ pub(crate) struct Taken {
 }
 
 impl Taken {
-    /// Returns what it means that one was taken of the `places` places of a ring, of which `before` were in use.
     fn from(before: u64, places: u64) -> Taken
         ensures full { IsTrue result.was_full ↔ (places ≤ before) }
         ensures crowded { IsTrue result.is_crowded ↔ (places + 2 < 2 * before) }

@@ -43,7 +43,6 @@ impl<T> HeldBlocks<T> {
         )
     }
 
-    /// Returns linked blocks with a spare one. If the last linked block has no item, the spare one is freed instead.
     fn with_spare(linked: LinkedBlocks<T>, spare: Option<EmptyBlock<T>>) -> HeldBlocks<T>
         requires { IsChain linked }
         ensures { result.linked ≡ linked }

@@ -16,7 +16,6 @@ impl<T> LinkedBlocks<T> {
         LinkedBlocks { first, back: None }
     }
 
-    /// Links a last block after other blocks, if there are any.
     fn from_front(front: Option<Front<T>>, last: DetachedBlock<T>) -> LinkedBlocks<T>
         ensures { result ≡ joined front ++ last.block ∷ [] }
     {
@@ -53,7 +52,6 @@ impl<T> LinkedBlocks<T> {
         }
     }
 
-    /// Removes the last block, and returns the blocks before it, if there are any.
     fn split_last(self) -> (Option<Front<T>>, DetachedBlock<T>)
         ensures { self ≡ joined result.0 ++ result.1.block ∷ [] }
     {
