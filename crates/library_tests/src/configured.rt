@@ -19,6 +19,28 @@ address = "127.0.0.1:2813"
 secret = "home-secret"
 "#;
 
+/// A client, and two home servers with a realm each.
+const TWO_HOMES: &str = r#"
+listen = "127.0.0.1:1813"
+[[client]]
+address = "10.0.0.1"
+secret = "nas-secret"
+[[home]]
+name = "h1"
+address = "127.0.0.1:2813"
+secret = "home-secret"
+[[home]]
+name = "h2"
+address = "127.0.0.1:2814"
+secret = "home2-secret"
+[[realm]]
+name = "example.org"
+home = "h1"
+[[realm]]
+name = "example.net"
+home = "h2"
+"#;
+
 /// Reads a configuration.
 pub fn configured(alloc: Global, text: &str) -> Result<Config, Fail> {
     Ok(read_config(alloc, text)?)
@@ -28,4 +50,9 @@ pub fn configured(alloc: Global, text: &str) -> Result<Config, Fail> {
 pub fn with_one_home(alloc: Global, keys: &str) -> Result<Config, Fail> {
     let text = format!(in alloc; "{ONE_HOME}{keys}")?;
     configured(alloc, &text)
+}
+
+/// Reads the configuration of one client and two home servers, `h1` and `h2`.
+pub fn with_two_homes(alloc: Global) -> Result<Config, Fail> {
+    configured(alloc, TWO_HOMES)
 }

@@ -7,36 +7,32 @@ use rad_realms::{Endpoint, LimitNumbers};
 use std::alloc::Global;
 use std::fmt;
 
-/// The tables of each home server and of its realm, without its limits.
-const FIRST_HOME: &str = r#"
-[[realm]]
-name = "example.org"
-home = "h0"
-[[home]]
-name = "h0"
-address = "127.0.0.1:2813"
-secret = "home-secret"
-"#;
+/// A home server of the configuration, with the realm that leads to it.
+#[derive(Clone, Copy)]
+struct NamedHome {
+    realm: &'static str,
+    endpoint: Endpoint,
+    secret: &'static str,
+}
 
-const SECOND_HOME: &str = r#"
-[[realm]]
-name = "other.org"
-home = "h1"
-[[home]]
-name = "h1"
-address = "127.0.0.2:2813"
-secret = "other-secret"
-"#;
-
-const THIRD_HOME: &str = r#"
-[[realm]]
-name = "third.net"
-home = "h2"
-[[home]]
-name = "h2"
-address = "127.0.0.1:2814"
-secret = "third-secret"
-"#;
+impl NamedHome {
+    /// The home server at a place. Two have the same port, and two have the same address.
+    fn at(place: u16) -> NamedHome {
+        let (realm, last_octet, port, secret) = match place {
+            0 => ("example.org", 1, 2813, "home-secret"),
+            1 => ("other.org", 2, 2813, "other-secret"),
+            _ => ("third.net", 1, 2814, "third-secret"),
+        };
+        NamedHome {
+            realm,
+            endpoint: Endpoint {
+                address: [127, 0, 0, last_octet],
+                port,
+            },
+            secret,
+        }
+    }
+}
 
 /// The tables of both clients.
 const CLIENTS: &str = r#"
@@ -104,7 +100,8 @@ impl Setting {
     }
 
     fn add_home(&mut self, place: u16, chance: &mut Chance) -> Result<(), Rule> {
-        let Ok(secret) = Secret::new(home_secret(place).as_bytes()) else {
+        let named = NamedHome::at(place);
+        let Ok(secret) = Secret::new(named.secret.as_bytes()) else {
             return Err(Rule::CONFIGURATION);
         };
         let limits = if self.is_hurried {
@@ -113,7 +110,7 @@ impl Setting {
             limits(chance)
         };
         self.homes.push(Home {
-            endpoint: home_endpoint(place),
+            endpoint: named.endpoint,
             secret,
             limits,
         })?;
@@ -130,7 +127,7 @@ impl fmt::Display for Setting {
         }
         f.write_str(CLIENTS)?;
         for (place, home) in self.homes.as_slice().iter().enumerate() {
-            f.write_str(tables((place & 3) as u16))?;
+            write_tables((place & 3) as u16, f)?;
             write_limits(&home.limits, f)?;
         }
         Ok(())
@@ -173,20 +170,21 @@ fn one_of(chance: &mut Chance, numbers: &[u32]) -> u32 {
     chance.pick(numbers).copied().unwrap_or(1)
 }
 
+/// Writes the tables of a home server and of its realm, without its limits.
+fn write_tables<W: fmt::Write>(place: u16, f: &mut fmt::Formatter<W>) -> fmt::Result {
+    let home = NamedHome::at(place);
+    let [first, second, third, last] = home.endpoint.address;
+    write!(f, "\n[[realm]]\nname = \"{}\"\nhome = \"h{place}\"\n", home.realm)?;
+    write!(f, "[[home]]\nname = \"h{place}\"\naddress = \"{first}.{second}.{third}.{last}")?;
+    write!(f, ":{}\"\nsecret = \"{}\"\n", home.endpoint.port, home.secret)
+}
+
 /// Writes the lines of a home server's limits, which follow its tables.
 fn write_limits<W: fmt::Write>(limits: &LimitNumbers, f: &mut fmt::Formatter<W>) -> fmt::Result {
     for (key, number) in keys(limits) {
         writeln!(f, "{key} = {number}")?;
     }
     Ok(())
-}
-
-fn tables(place: u16) -> &'static str {
-    match place {
-        0 => FIRST_HOME,
-        1 => SECOND_HOME,
-        _ => THIRD_HOME,
-    }
 }
 
 fn keys(limits: &LimitNumbers) -> [(&'static str, u32); 10] {
@@ -206,27 +204,7 @@ fn keys(limits: &LimitNumbers) -> [(&'static str, u32); 10] {
 
 /// Returns the realm that leads to a home server.
 pub fn realm_of_home(place: u16) -> &'static str {
-    match place {
-        0 => "example.org",
-        1 => "other.org",
-        _ => "third.net",
-    }
-}
-
-/// Returns the endpoint of a home server. Two home servers have the same port, and two have the same address.
-fn home_endpoint(place: u16) -> Endpoint {
-    Endpoint {
-        address: [127, 0, 0, if place == 1 { 2 } else { 1 }],
-        port: if place == 2 { 2814 } else { 2813 },
-    }
-}
-
-fn home_secret(place: u16) -> &'static str {
-    match place {
-        0 => "home-secret",
-        1 => "other-secret",
-        _ => "third-secret",
-    }
+    NamedHome::at(place).realm
 }
 
 /// Returns the address of a client.

@@ -5,7 +5,7 @@
 ghost use Rattle.std.specs.Prelude.{Some};
 
 use crate::comparing::holds;
-use crate::configured::configured;
+use crate::configured::with_two_homes;
 use crate::nas::SEVENTH;
 use rad_desk::{Call, Delivery, Gate, Go, Received, Traffic, Wire, Worker};
 use rad_realms::{Config, Endpoint};
@@ -44,28 +44,6 @@ const REQUESTS: &[&[u8]] = &[&SEVENTH, &NET_REQUEST];
 const FIRST_REPLY: &[&[u8]] = &[&SEVENTH_REPLY];
 
 const SECOND_REPLY: &[&[u8]] = &[&NET_REPLY];
-
-/// A configuration of one client and two home servers.
-const TWO_HOMES: &str = r#"
-listen = "127.0.0.1:1813"
-[[client]]
-address = "10.0.0.1"
-secret = "nas-secret"
-[[home]]
-name = "h1"
-address = "127.0.0.1:2813"
-secret = "home-secret"
-[[home]]
-name = "h2"
-address = "127.0.0.1:2814"
-secret = "home2-secret"
-[[realm]]
-name = "example.org"
-home = "h1"
-[[realm]]
-name = "example.net"
-home = "h2"
-"#;
 
 /// How often a thread looks again at what the others did, a millisecond apart.
 const LOOKS: u32 = 10_000;
@@ -310,7 +288,7 @@ fn are_served<R: Clock + Threads + Wait + Sync>(
 
 #[test]
 fn lanes_have_threads_of_their_own(rt: HostRuntime) -> Result<(), Fail> {
-    let config = configured(rt.alloc(), TWO_HOMES)?;
+    let config = with_two_homes(rt.alloc())?;
     let (crossing, sent) = (Crossing::new(&rt), Sent::new());
     let is_right = are_served(&rt, rt.alloc(), &config, &crossing, &sent);
     drop(config);

@@ -2,7 +2,7 @@
 //! over an empty datagram, and of a datagram that is no packet and is sent; and of when a lane is asked for its standing.
 
 use crate::comparing::holds;
-use crate::configured::configured;
+use crate::configured::with_two_homes;
 use crate::telemetry::logs::{MemoryLog, has_logged, log_up_to};
 use rad_desk::{DeskFault, Gate, Standing, Worker, WorkerReport};
 use rad_lane::Counts;
@@ -14,22 +14,6 @@ use rad_telemetry::{Telemetry, Tracer};
 use std::alloc::{AllocError, Global};
 use std::test::Fail;
 use std::time::Clock;
-
-/// A configuration with one client and two home servers.
-const TWO_HOMES: &str = r#"
-listen = "127.0.0.1:1813"
-[[client]]
-address = "10.0.0.1"
-secret = "nas-secret"
-[[home]]
-name = "h1"
-address = "127.0.0.1:2813"
-secret = "home-secret"
-[[home]]
-name = "h2"
-address = "127.0.0.1:2814"
-secret = "home2-secret"
-"#;
 
 /// The endpoint of the second home server.
 const HOME: Endpoint = Endpoint {
@@ -136,7 +120,7 @@ fn logs<R: Clock>(
 
 #[test]
 fn what_no_run_reports_is_logged_and_counted(rt: HostRuntime) -> Result<(), Fail> {
-    let config = configured(rt.alloc(), TWO_HOMES)?;
+    let config = with_two_homes(rt.alloc())?;
     let all = logs(&rt, rt.alloc(), &config, LevelFilter::Trace, LINES);
     let errors = logs(&rt, rt.alloc(), &config, LevelFilter::Error, ERRORS);
     drop(config);

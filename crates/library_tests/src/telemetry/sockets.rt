@@ -2,7 +2,7 @@
 //! lines come and go in its table, and that a socket that is bound while others are read is not omitted.
 
 use crate::comparing::holds;
-use crate::configured::configured;
+use crate::configured::with_one_home;
 use rad_desk::Worker;
 use rad_metrics::{Draft, Numbers, SystemFiles};
 use rad_realms::{Config, Endpoint};
@@ -11,18 +11,6 @@ use std::sync::Wait;
 use std::test::Fail;
 use std::thread::{self, Threads};
 use std::time::{Clock, Duration};
-
-/// A configuration with one client and one home server.
-const ONE_HOME: &str = r#"
-listen = "127.0.0.1:1813"
-[[client]]
-address = "10.0.0.1"
-secret = "nas-secret"
-[[home]]
-name = "h1"
-address = "127.0.0.1:2813"
-secret = "home-secret"
-"#;
 
 /// The sockets: that of the clients, and two of the lane.
 const SOCKETS: [(Worker, usize, u16); 3] = [
@@ -186,7 +174,7 @@ fn read_often<R: Clock + Wait>(
 
 #[test]
 fn what_a_socket_dropped_never_falls(rt: HostRuntime) -> Result<(), Fail> {
-    let config = configured(rt.alloc(), ONE_HOME)?;
+    let config = with_one_home(rt.alloc(), "")?;
     let numbers = Numbers::new(rt.alloc(), &rt, &config)?;
     let is_right = never_falls(&rt, rt.alloc(), &config, &numbers);
     drop(numbers);
@@ -197,7 +185,7 @@ fn what_a_socket_dropped_never_falls(rt: HostRuntime) -> Result<(), Fail> {
 
 #[test]
 fn no_socket_is_omitted_while_others_are_read(rt: HostRuntime) -> Result<(), Fail> {
-    let config = configured(rt.alloc(), ONE_HOME)?;
+    let config = with_one_home(rt.alloc(), "")?;
     let numbers = Numbers::new(rt.alloc(), &rt, &config)?;
     let is_right = omits_none(&rt, rt.alloc(), &config, &numbers);
     drop(numbers);
