@@ -13,13 +13,13 @@ const CUT: u32 = 51;
 
 /// The socket to which the last datagram from `peer` came.
 #[derive(Clone, Copy)]
-struct Origin {
+struct PeerSocket {
     peer: Endpoint,
     socket: u16,
 }
 
 /// The content of a free place: no datagram comes from port 0 of this address.
-const NOBODY: Origin = Origin {
+const NOBODY: PeerSocket = PeerSocket {
     peer: Endpoint {
         address: [0, 0, 0, 0],
         port: 0,
@@ -29,7 +29,7 @@ const NOBODY: Origin = Origin {
 
 /// Ports of clients, the one with the most recent datagram first.
 #[derive(Clone, Copy)]
-struct Row([Origin; ROW]);
+struct Row([PeerSocket; ROW]);
 
 impl Row {
     /// Returns the socket to which the last datagram from `peer` came, if the row holds it.
@@ -44,7 +44,7 @@ impl Row {
 
     /// Puts an origin first. Those before the place of the same peer's earlier origin move back by one. If there is
     /// none, all move back, and the last one is dropped.
-    fn put(&mut self, origin: Origin) {
+    fn put(&mut self, origin: PeerSocket) {
         let mut moved = origin;
         for place in &mut self.0 {
             let old = *place;
@@ -97,7 +97,7 @@ impl Origins {
         }
         let row = self.row_of(peer);
         if let Some(row) = self.rows.get_mut(row) {
-            row.put(Origin { peer, socket });
+            row.put(PeerSocket { peer, socket });
         }
     }
 

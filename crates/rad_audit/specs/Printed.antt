@@ -4,13 +4,13 @@ use Rattle.std.specs.Fmt.{decimal, digits, format_spec, padded_integral}
 use Rattle.rad_ledger.specs.Printed.{gap_text, reason_text, verdict_text}
 use Rattle.rad_ledger.specs.declared.reason.Reason.TheVariants.{WrongSum}
 use Rattle.rad_audit.specs.Shown.{word_text}
-use Rattle.rad_audit.specs.declared.printing.Place.{Place}
+use Rattle.rad_audit.specs.declared.printing.LinePlace.{LinePlace}
 use Rattle.rad_audit.specs.declared.printing.LaneCounts.{LaneCounts}
 use Rattle.rad_audit.specs.declared.printing.LaneName.{LaneName}
 use Rattle.rad_audit.specs.declared.printing.Finding.{Finding}
 use Rattle.rad_audit.specs.declared.printing.Finding.TheVariants as finding
 
-abbrev pub place_text : Place → List ℕ
+abbrev pub place_text : LinePlace → List ℕ
 place_text place = word_text place.file.now ++ codes ":" ++ decimal place.line
 
 -- The name of a run: sixteen hexadecimal digits, zeros before the others.

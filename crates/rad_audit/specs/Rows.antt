@@ -12,7 +12,7 @@ use Rattle.rad_audit.specs.Printed.{run_text}
 use Rattle.rad_audit.specs.Cells.{client_cell, value_cell, number_cell}
 use Rattle.rad_audit.specs.Facts.{number_at, octets_at, value_at}
 use Rattle.rad_audit.specs.declared.facts.Facts.{Facts}
-use Rattle.rad_audit.specs.declared.printing.Place.{Place}
+use Rattle.rad_audit.specs.declared.printing.LinePlace.{LinePlace}
 use Rattle.rad_audit.specs.declared.rows.RecordName.{RecordName}
 use Rattle.rad_audit.specs.declared.rows.Row.{Row}
 use Rattle.rad_audit.specs.declared.rows.State.{State}
@@ -25,7 +25,7 @@ with_tabs (word ∷ []) = word
 with_tabs (word ∷ next ∷ rest) = word ++ 9 ∷ with_tabs (next ∷ rest)
 
 -- Where the line of a record stands.
-abbrev pub place_words : Place → List (List ℕ)
+abbrev pub place_words : LinePlace → List (List ℕ)
 place_words place = value_cell (Some place.file.now) ∷ decimal place.line ∷ []
 
 -- What a line says of the request that it is about, and the serial of the response, if there is one.
@@ -43,7 +43,7 @@ facts_of e =
     ∷ number_cell (octets_at 52 42 e.sent.now) ∷ number_cell (octets_at 53 43 e.sent.now) ∷ number_cell (number_at 46 e.sent.now) ∷ []
 
 -- The words of an entry's row.
-abbrev pub row_of : Place → Entry → List (List ℕ)
+abbrev pub row_of : LinePlace → Entry → List (List ℕ)
 row_of place e = place_words place ++ name_of e.about (Some e.serial) ++ facts_of e ++ codes "answered" ∷ []
 
 -- The same of a request that was left, which has no serial.
@@ -53,7 +53,7 @@ facts_of_left l =
     ∷ value_cell (session_id l.request.now) ∷ value_cell (value_at 1 l.request.now) ∷ number_cell (number_at 40 l.request.now)
     ∷ number_cell (octets_at 52 42 l.request.now) ∷ number_cell (octets_at 53 43 l.request.now) ∷ number_cell (number_at 46 l.request.now) ∷ []
 
-abbrev pub row_of_left : Place → TheLeft → List (List ℕ)
+abbrev pub row_of_left : LinePlace → TheLeft → List (List ℕ)
 row_of_left place l = place_words place ++ name_of l.about None ++ facts_of_left l ++ state_text l.state ∷ []
 
 -- The words of a row, by its parts.

@@ -16,8 +16,8 @@ use Rattle.rad_ledger.specs.declared.tally.Gap.{Gap}
 use Rattle.rad_ledger.specs.declared.tally.Tally.{Tally}
 use Rattle.rad_audit.specs.Facts.{number_at, value_at}
 use Rattle.rad_audit.specs.declared.wording.LineWords.{LineWords}
-use Rattle.rad_audit.specs.declared.taking.Taken.{Taken}
-use Rattle.rad_audit.specs.declared.taking.Taken.TheVariants.{Wrong, Counted}
+use Rattle.rad_audit.specs.declared.taking.TakenEntry.{TakenEntry}
+use Rattle.rad_audit.specs.declared.taking.TakenEntry.TheVariants.{Wrong, Counted}
 
 -- The number was not known to be that of another line, and now it is one of the lane's numbers.
 pub record CountsNumber (old new : Account) (number : ℕ) : Type 0 where
@@ -67,7 +67,7 @@ IsWrongEntry e home client old was WrongWords =
     ArePacketsRight e home client × IsInPlace e.serial (Some old.next) × (¬ IsKnown was.numbers e.about.number) × ¬ HasItsWords e.sent.now (words_of e.about)
 IsWrongEntry e home client old was WrongSum = ⊥
 
-abbrev pub Takes : Entry → Option (List ℕ) → Option (List ℕ) → Tally → Account → Taken → Tally → Account → Type 0
+abbrev pub Takes : Entry → Option (List ℕ) → Option (List ℕ) → Tally → Account → TakenEntry → Tally → Account → Type 0
 Takes e home client old was (Wrong reason) new is = IsWrongEntry e home client old was reason × (new ≡ old) × IsUnchanged was is
 Takes e home client old was (Counted gap) new is = IsCounted e home client old was gap new is
 

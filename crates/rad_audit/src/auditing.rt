@@ -11,11 +11,11 @@ use crate::faults::Fault;
 use crate::kept_sums::KeptSums;
 use crate::line_room::{LineRoom, Piece};
 use crate::printing::{
-    Asked, Finding, Findings, LaneCounts, LaneName, NO_FINDINGS, Outputs, Place, Report,
+    Asked, Finding, Findings, LaneCounts, LaneName, LinePlace, NO_FINDINGS, Outputs, Report,
 };
 use crate::read_file::FileSoFar;
 use crate::runs::{Lane, Run, Runs};
-use crate::taking::{Taken, judge_stray, judge_stray_left, take_entry, take_left};
+use crate::taking::{TakenEntry, judge_stray, judge_stray_left, take_entry, take_left};
 use ledger_lines::{
     Begin, End, Hidden, LaneCount, Line, LineFault, MOST_LINE_OCTETS, Room, moment_of, read_line,
 };
@@ -162,7 +162,7 @@ impl<'a, W: Write> Audit<'a, W> {
     ) -> Result<(), Fault> {
         self.file = FileSoFar::new(self.report.asked.all);
         for line in 1..u64::MAX {
-            let place = Place { file, line };
+            let place = LinePlace { file, line };
             if is_watched && line.is_multiple_of(LINES_APART) {
                 tell_place(rt, place);
             }
@@ -190,7 +190,7 @@ impl<'a, W: Write> Audit<'a, W> {
             return Ok(());
         };
         self.held.line = None;
-        let place = Place { file, line };
+        let place = LinePlace { file, line };
         if is_front(self.held.octets.as_slice(), self.line.as_slice()) {
             self.report.tell(Finding::Torn(place))
         } else {
@@ -198,7 +198,7 @@ impl<'a, W: Write> Audit<'a, W> {
         }
     }
 
-    fn take(&mut self, place: Place<'_>) -> Result<(), Fault> {
+    fn take(&mut self, place: LinePlace<'_>) -> Result<(), Fault> {
         if self.take_read(place)? {
             Ok(())
         } else {
@@ -208,7 +208,7 @@ impl<'a, W: Write> Audit<'a, W> {
 
     /// Takes the line that was read, if it is a line of a ledger. Returns whether it is.
     #[tactic(auto, using(crate::proofs::Entries::serial_of_line))]
-    fn take_read(&mut self, place: Place<'_>) -> Result<bool, Fault> {
+    fn take_read(&mut self, place: LinePlace<'_>) -> Result<bool, Fault> {
         let (alloc, config) = (self.alloc, self.config);
         let (runs, sums, report) = (&mut self.runs, &mut self.sums, &mut self.report);
         let line = self.line.as_slice();
@@ -264,7 +264,7 @@ impl<'a, W: Write> Audit<'a, W> {
 }
 
 /// Tells at which line of the files the audit is. Whatever is printed next is written over that.
-fn tell_place<R: Runtime>(rt: &R, place: Place<'_>) {
+fn tell_place<R: Runtime>(rt: &R, place: LinePlace<'_>) {
     let _ = eprint!(rt; "\u{1b}[K{place}\r");
 }
 
@@ -277,7 +277,7 @@ fn begin_file<W: Write>(
     alloc: Global,
     runs: &mut Runs,
     report: &mut Report<'_, W>,
-    place: Place<'_>,
+    place: LinePlace<'_>,
     begin: &Begin<'_>,
 ) -> Result<(), Fault> {
     match runs.begin(alloc, begin)? {
@@ -291,7 +291,7 @@ fn pass_begin<W: Write>(
     runs: &mut Runs,
     sums: &mut KeptSums<'_>,
     report: &mut Report<'_, W>,
-    place: Place<'_>,
+    place: LinePlace<'_>,
     begin: &Begin<'_>,
     line: &[u8],
 ) -> Result<(), Fault> {
@@ -308,7 +308,7 @@ fn pass_begin<W: Write>(
 
 fn tell_sum<W: Write>(
     report: &mut Report<'_, W>,
-    place: Place<'_>,
+    place: LinePlace<'_>,
     is_right: bool,
 ) -> Result<(), Fault> {
     if is_right {
@@ -330,7 +330,7 @@ fn pass_hidden<W: Write>(
     runs: &mut Runs,
     sums: &mut KeptSums<'_>,
     report: &mut Report<'_, W>,
-    place: Place<'_>,
+    place: LinePlace<'_>,
     hidden: &Hidden,
 ) -> Result<(), Fault> {
     let Some(run) = runs.last() else {
@@ -345,7 +345,7 @@ fn pass_hidden<W: Write>(
 fn check_end<W: Write>(
     runs: &mut Runs,
     report: &mut Report<'_, W>,
-    place: Place<'_>,
+    place: LinePlace<'_>,
     end: &End<'_>,
 ) -> Result<(), Fault> {
     match runs.run(end.run) {
@@ -365,7 +365,7 @@ fn count_entry<W: Write>(
     config: &Config,
     runs: &mut Runs,
     report: &mut Report<'_, W>,
-    place: Place<'_>,
+    place: LinePlace<'_>,
     entry: &Entry<'_>,
 ) -> Result<(), Fault>
     requires { entry.now.serial < 2 ^ 63 }
@@ -381,8 +381,8 @@ fn count_entry<W: Write>(
     };
     let (tally, account) = (&mut lane.tally, &mut lane.account);
     match take_entry(alloc, entry, home, client, tally, account)? {
-        Taken::Wrong(reason) => report.tell(Finding::Wrong(place, reason)),
-        Taken::Counted(gap) => {
+        TakenEntry::Wrong(reason) => report.tell(Finding::Wrong(place, reason)),
+        TakenEntry::Counted(gap) => {
             lane.ending.go_on();
             lane.times.take(moment_of(entry.about.time));
             if home.is_none() || client.is_none() {
@@ -401,7 +401,7 @@ fn count_left<W: Write>(
     config: &Config,
     runs: &mut Runs,
     report: &mut Report<'_, W>,
-    place: Place<'_>,
+    place: LinePlace<'_>,
     left: &Left<'_>,
 ) -> Result<(), Fault> {
     let client = secret_of_client(config, left.about.client);
@@ -476,7 +476,7 @@ fn secret_of_client(config: &Config, address: [u8; 4]) -> Option<&Secret>
 fn take_end<W: Write>(
     runs: &mut Runs,
     report: &mut Report<'_, W>,
-    place: Place<'_>,
+    place: LinePlace<'_>,
     end: &End<'_>,
 ) -> Result<(), Fault> {
     for count in end.lanes.iter() {

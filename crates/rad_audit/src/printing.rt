@@ -15,7 +15,7 @@ use std::io::Write;
 
 /// Where a line stands.
 #[derive(Clone, Copy)]
-pub struct Place<'a> {
+pub struct LinePlace<'a> {
     pub file: &'a str,
     /// Its number in the file, from 1.
     pub line: u64,
@@ -36,13 +36,13 @@ pub struct LaneName<'a> {
 #[derive(Clone, Copy)]
 pub enum Finding<'a> {
     /// A line is wrong.
-    Wrong(Place<'a>, Reason),
+    Wrong(LinePlace<'a>, Reason),
     /// A line was cut short. That is no fault.
-    Torn(Place<'a>),
+    Torn(LinePlace<'a>),
     /// Before a line these responses of a lane are missing.
-    Gap(Place<'a>, LaneName<'a>, Gap),
+    Gap(LinePlace<'a>, LaneName<'a>, Gap),
     /// Before a line files of this run are missing: those of these numbers.
-    Files(Place<'a>, u64, Gap),
+    Files(LinePlace<'a>, u64, Gap),
     /// What a lane has.
     Lane(LaneCounts<'a>),
     /// What became of the requests that a lane accepted.
@@ -314,7 +314,7 @@ impl<W: Write> Report<'_, W> {
     }
 
     /// Prints the row of an entry, if rows are printed.
-    pub fn row(&mut self, place: Place<'_>, entry: &Entry<'_>) -> Result<(), Fault>
+    pub fn row(&mut self, place: LinePlace<'_>, entry: &Entry<'_>) -> Result<(), Fault>
         ensures findings { self.new.findings ≡ self.old.findings }
         ensures fault { IfErr result (λ fault. fault ≡ Output) }
     {
@@ -325,7 +325,7 @@ impl<W: Write> Report<'_, W> {
     }
 
     /// Prints the row of a request that was left, if rows are printed.
-    pub fn left_row(&mut self, place: Place<'_>, left: &Left<'_>) -> Result<(), Fault>
+    pub fn left_row(&mut self, place: LinePlace<'_>, left: &Left<'_>) -> Result<(), Fault>
         ensures findings { self.new.findings ≡ self.old.findings }
         ensures fault { IfErr result (λ fault. fault ≡ Output) }
     {
@@ -370,7 +370,7 @@ fn is_unasked(asked: Asked, counts: LaneCounts<'_>) -> bool
         || ((counts.bare || counts.not_judged != 0) && !asked.partial)
 }
 
-impl fmt::Display for Place<'_> {
+impl fmt::Display for LinePlace<'_> {
     ghost use Rattle.std.specs.Prelude.{Some};
     ghost use Rattle.rad_audit.specs.Printed.{place_text};
 

@@ -6,7 +6,7 @@ ghost use Rattle.rad_audit.specs.Rows.{row_of, row_of_left, name_of, name_words,
 
 use crate::cells::{Cell, ClientCell, NumberCell};
 use crate::facts::Facts;
-use crate::printing::Place;
+use crate::printing::LinePlace;
 use rad_ledger::{Entry, Left, LeftState, LineRequest, whole_packet};
 use std::fmt;
 
@@ -45,7 +45,7 @@ pub struct RunText(pub u64);
 /// The row of a record.
 #[derive(Clone, Copy)]
 pub struct Row<'a> {
-    pub place: Place<'a>,
+    pub place: LinePlace<'a>,
     pub name: RecordName<'a>,
     pub facts: Facts<'a>,
     pub state: State,
@@ -53,7 +53,7 @@ pub struct Row<'a> {
 
 impl<'a> Row<'a> {
     /// Returns the row of an entry, if its packets are packets.
-    pub fn of_entry(place: Place<'a>, entry: &Entry<'a>) -> Option<Row<'a>>
+    pub fn of_entry(place: LinePlace<'a>, entry: &Entry<'a>) -> Option<Row<'a>>
         ensures { MatchOption result (¬ (IsPacketText entry.now.sent.now × IsPacketText entry.now.response.now)) (λ row. words_of row ≡ row_of place.entry entry.now) }
     {
         let sent = whole_packet(entry.sent)?;
@@ -67,7 +67,7 @@ impl<'a> Row<'a> {
     }
 
     /// Returns the row of a request that was left, if its packet is one.
-    pub fn of_left(place: Place<'a>, left: &Left<'a>) -> Option<Row<'a>>
+    pub fn of_left(place: LinePlace<'a>, left: &Left<'a>) -> Option<Row<'a>>
         ensures { MatchOption result (¬ IsPacketText left.now.request.now) (λ row. words_of row ≡ row_of_left place.entry left.now) }
     {
         let request = whole_packet(left.request)?;

@@ -13,7 +13,7 @@ use std::alloc::{AllocError, Global};
 
 /// What became of an entry.
 #[derive(Clone, Copy)]
-pub enum Taken {
+pub enum TakenEntry {
     /// It is wrong, and does not count.
     Wrong(Reason),
     /// It counts. Before it these are missing, if any are.
@@ -33,7 +33,7 @@ pub fn take_entry(
     client: Option<&Secret>,
     tally: &mut Tally,
     account: &mut Account,
-) -> Result<Taken, AllocError>
+) -> Result<TakenEntry, AllocError>
     requires { entry.now.serial < 2 ^ 63 }
     ensures taken { IfOk result (λ taken. Takes entry.now (option_copied home.entry) (option_copied client.entry) tally.old account.old taken tally.new account.new) }
     ensures refused { IfErr result (λ _. (tally.new ≡ tally.old) × IsAsBefore account.old.numbers account.new.numbers) }
@@ -41,17 +41,17 @@ pub fn take_entry(
     let next = Some(tally.next());
     let twice = account.has(entry.about.number);
     if let Some(reason) = judge(alloc, entry, home, client, next, twice)? {
-        return Ok(Taken::Wrong(reason));
+        return Ok(TakenEntry::Wrong(reason));
     }
     if !are_words_of(entry.sent, LineWords::of(&entry.about)) {
-        return Ok(Taken::Wrong(Reason::WrongWords));
+        return Ok(TakenEntry::Wrong(Reason::WrongWords));
     }
     if !account.answer(entry.about.number)? {
-        return Ok(Taken::Wrong(Reason::RecordTwice));
+        return Ok(TakenEntry::Wrong(Reason::RecordTwice));
     }
     match tally.take(entry.serial) {
-        Ok(gap) => Ok(Taken::Counted(gap)),
-        Err(reason) => Ok(Taken::Wrong(reason)),
+        Ok(gap) => Ok(TakenEntry::Counted(gap)),
+        Err(reason) => Ok(TakenEntry::Wrong(reason)),
     }
 }
 

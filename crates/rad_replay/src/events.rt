@@ -7,7 +7,7 @@ use rad_console::Command;
 
 /// An event that happens to the proxy.
 #[derive(Clone, Copy)]
-pub enum Event<'a> {
+pub enum ScriptEvent<'a> {
     /// A datagram arrives from a NAS.
     Nas {
         address: [u8; 4],
@@ -40,7 +40,7 @@ pub enum Event<'a> {
     Console(Command),
 }
 
-impl<'a> Event<'a> {
+impl<'a> ScriptEvent<'a> {
     /// Reads the event of a line, if the line is one.
     pub fn parse(line: &'a [u8]) -> Option<Self> {
         let mut words = Pieces::new(line, b' ');
@@ -48,7 +48,7 @@ impl<'a> Event<'a> {
     }
 }
 
-fn parse_line<'a>(words: &mut Pieces<'a>) -> Option<Event<'a>> {
+fn parse_line<'a>(words: &mut Pieces<'a>) -> Option<ScriptEvent<'a>> {
     let first = next_word(words)?;
     let event = parse_event(first, words)?;
     match next_word(words) {
@@ -57,33 +57,33 @@ fn parse_line<'a>(words: &mut Pieces<'a>) -> Option<Event<'a>> {
     }
 }
 
-fn parse_event<'a>(first: &[u8], words: &mut Pieces<'a>) -> Option<Event<'a>> {
+fn parse_event<'a>(first: &[u8], words: &mut Pieces<'a>) -> Option<ScriptEvent<'a>> {
     match first {
         b"nas" => parse_nas(words),
         b"home" => parse_home(words),
         b"at" => parse_at(words),
         _ => match Command::of(first) {
             Command::Unknown => parse_act(first, words),
-            command => Some(Event::Console(command)),
+            command => Some(ScriptEvent::Console(command)),
         },
     }
 }
 
-fn parse_act<'a>(first: &[u8], words: &mut Pieces<'a>) -> Option<Event<'a>> {
+fn parse_act<'a>(first: &[u8], words: &mut Pieces<'a>) -> Option<ScriptEvent<'a>> {
     let lane = next_u16(words)?;
     match first {
-        b"take" => Some(Event::Take { lane }),
-        b"step" => Some(Event::Step { lane }),
-        b"turn" => Some(Event::Turn { lane }),
+        b"take" => Some(ScriptEvent::Take { lane }),
+        b"step" => Some(ScriptEvent::Step { lane }),
+        b"turn" => Some(ScriptEvent::Turn { lane }),
         _ => None,
     }
 }
 
-fn parse_nas<'a>(words: &mut Pieces<'a>) -> Option<Event<'a>> {
+fn parse_nas<'a>(words: &mut Pieces<'a>) -> Option<ScriptEvent<'a>> {
     let address = next_address(words)?;
     let port = next_u16(words)?;
     let packet = parse_packet(words)?;
-    Some(Event::Nas {
+    Some(ScriptEvent::Nas {
         address,
         port,
         packet,
@@ -91,11 +91,11 @@ fn parse_nas<'a>(words: &mut Pieces<'a>) -> Option<Event<'a>> {
 }
 
 /// Reads the words after `home`, which describe no Status-Server, since a home server sends none.
-fn parse_home<'a>(words: &mut Pieces<'a>) -> Option<Event<'a>> {
+fn parse_home<'a>(words: &mut Pieces<'a>) -> Option<ScriptEvent<'a>> {
     let (lane, port) = parse_source(next_word(words)?)?;
     match parse_packet(words)? {
         Packet::Made(Template::Status { .. }, _) => None,
-        packet => Some(Event::Home { lane, port, packet }),
+        packet => Some(ScriptEvent::Home { lane, port, packet }),
     }
 }
 
@@ -118,7 +118,7 @@ fn parse_lane_and_port(numbers: &mut Pieces<'_>) -> Option<(u16, u16)> {
     }
 }
 
-fn parse_at<'a>(words: &mut Pieces<'a>) -> Option<Event<'a>> {
+fn parse_at<'a>(words: &mut Pieces<'a>) -> Option<ScriptEvent<'a>> {
     let milliseconds = next_usize(words)? as u64;
-    Some(Event::At { milliseconds })
+    Some(ScriptEvent::At { milliseconds })
 }

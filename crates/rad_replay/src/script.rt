@@ -5,7 +5,7 @@ ghost use Rattle.rad_replay.specs.Replaying.{IsEnd};
 
 use crate::building::{build_reply, build_request};
 use crate::datagrams::Packet;
-use crate::events::Event;
+use crate::events::ScriptEvent;
 use crate::faults::{Halt, ReplayFault};
 use crate::lines::{Cut, HomeLine, NasLine, StepLine, TakeLine, TurnLine};
 use crate::packet_text::{PacketText, SentText};
@@ -127,21 +127,21 @@ impl<'a> Script<'a> {
         line: &[u8],
         output: &mut W,
     ) -> Result<(), Halt> {
-        let Some(event) = Event::parse(line) else {
+        let Some(event) = ScriptEvent::parse(line) else {
             return Err(Halt::Malformed);
         };
         match event {
-            Event::Nas {
+            ScriptEvent::Nas {
                 address,
                 port,
                 packet,
             } => self.nas(rt, address, port, &packet, output),
-            Event::Home { lane, port, packet } => self.home(rt, lane, port, &packet, output),
-            Event::Take { lane } => self.take(lane, output),
-            Event::Step { lane } => self.step(rt, lane, output),
-            Event::Turn { lane } => self.turn(rt, lane, output),
-            Event::At { milliseconds } => self.set_moment(milliseconds),
-            Event::Console(command) => self.obey(rt, command, output),
+            ScriptEvent::Home { lane, port, packet } => self.home(rt, lane, port, &packet, output),
+            ScriptEvent::Take { lane } => self.take(lane, output),
+            ScriptEvent::Step { lane } => self.step(rt, lane, output),
+            ScriptEvent::Turn { lane } => self.turn(rt, lane, output),
+            ScriptEvent::At { milliseconds } => self.set_moment(milliseconds),
+            ScriptEvent::Console(command) => self.obey(rt, command, output),
         }
     }
 

@@ -139,7 +139,7 @@ pub struct DownBy {
 
 /// One call of a wire or of a gate.
 #[derive(Drop)]
-pub enum Event {
+pub enum TraceEvent {
     /// The wire returned this from a receive, and from then on it is this moment.
     Received(u64, Came),
     /// The wire drew these octets.

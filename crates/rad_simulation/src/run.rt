@@ -3,7 +3,7 @@
 use crate::book::Book;
 use crate::chance::Chance;
 use crate::ending::compare_end;
-use crate::events::Event;
+use crate::events::TraceEvent;
 use crate::front_turn::Books;
 use crate::lane_turn::lane_turn;
 use crate::nases::Nases;
@@ -252,7 +252,7 @@ impl Run {
         &mut self,
         lane: Option<u16>,
         turns: u64,
-        events: &[Event],
+        events: &[TraceEvent],
         tally: Tally,
     ) -> Result<(), Rule> {
         self.compare(lane, turns, events, tally)?;
@@ -305,7 +305,7 @@ impl Run {
         &mut self,
         lane: Option<u16>,
         turns: u64,
-        events: &[Event],
+        events: &[TraceEvent],
         tally: Tally,
     ) -> Result<(), Rule> {
         let mut walk = Walk::new(events, tally.turns == turns);
@@ -335,12 +335,12 @@ impl Run {
     }
 
     /// Delivers what a lane sent to the home servers.
-    fn react(&mut self, lane: Option<u16>, events: &[Event]) -> Result<(), Rule> {
+    fn react(&mut self, lane: Option<u16>, events: &[TraceEvent]) -> Result<(), Rule> {
         let Some(lane) = lane else {
             return Ok(());
         };
         for event in events {
-            if let Event::Went(gone) = event
+            if let TraceEvent::Went(gone) = event
                 && gone.is_handed_over
             {
                 self.network

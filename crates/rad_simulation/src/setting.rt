@@ -174,9 +174,20 @@ fn one_of(chance: &mut Chance, numbers: &[u32]) -> u32 {
 fn write_tables<W: fmt::Write>(place: u16, f: &mut fmt::Formatter<W>) -> fmt::Result {
     let home = NamedHome::at(place);
     let [first, second, third, last] = home.endpoint.address;
-    write!(f, "\n[[realm]]\nname = \"{}\"\nhome = \"h{place}\"\n", home.realm)?;
-    write!(f, "[[home]]\nname = \"h{place}\"\naddress = \"{first}.{second}.{third}.{last}")?;
-    write!(f, ":{}\"\nsecret = \"{}\"\n", home.endpoint.port, home.secret)
+    write!(
+        f,
+        "\n[[realm]]\nname = \"{}\"\nhome = \"h{place}\"\n",
+        home.realm
+    )?;
+    write!(
+        f,
+        "[[home]]\nname = \"h{place}\"\naddress = \"{first}.{second}.{third}.{last}"
+    )?;
+    write!(
+        f,
+        ":{}\"\nsecret = \"{}\"\n",
+        home.endpoint.port, home.secret
+    )
 }
 
 /// Writes the lines of a home server's limits, which follow its tables.

@@ -1,7 +1,7 @@
 //! The gate and the wire of a worker in the simulation. Both record their calls in one list.
 
 use crate::chance::Chance;
-use crate::events::{Came, DownBy, Event, Gone, Sign, octets_of};
+use crate::events::{Came, DownBy, Gone, Sign, TraceEvent, octets_of};
 use rad_desk::{Call, Delivery, Gate, Go, Received, Spent, Wire, Worker, WorkerReport};
 use rad_realms::Endpoint;
 use rad_tables::Moment;
@@ -12,7 +12,7 @@ use std::cell::Cell;
 #[derive(Drop)]
 pub struct Trace {
     alloc: Global,
-    events: Cell<Option<Vec<Event>>>,
+    events: Cell<Option<Vec<TraceEvent>>>,
 }
 
 impl Trace {
@@ -25,12 +25,12 @@ impl Trace {
     }
 
     /// Returns all events in order, or `None` if memory was refused. The list forgets them.
-    pub fn take(&self) -> Option<Vec<Event>> {
+    pub fn take(&self) -> Option<Vec<TraceEvent>> {
         self.events.replace(Some(Vec::new(self.alloc)))
     }
 
     /// Adds an event. If memory is refused, the list is lost.
-    fn add(&self, event: Event) {
+    fn add(&self, event: TraceEvent) {
         let Some(mut events) = self.events.replace(None) else {
             return;
         };
@@ -66,7 +66,7 @@ impl<'a> TraceGate<'a> {
         let is_own = worker == self.worker;
         let sign = if is_own { sign } else { Sign::OfAnother };
         if let Some(copy) = self.trace.copy(octets) {
-            self.trace.add(Event::Signed(sign, copy));
+            self.trace.add(TraceEvent::Signed(sign, copy));
         }
     }
 
@@ -76,7 +76,7 @@ impl<'a> TraceGate<'a> {
             Some(spent) => Some(self.down_by(spent)),
             None => None,
         };
-        self.trace.add(Event::WentDown(down));
+        self.trace.add(TraceEvent::WentDown(down));
     }
 
     fn down_by(&self, spent: &Spent) -> DownBy {
@@ -174,7 +174,7 @@ impl<'a> Wire for TraceWire<'a> {
 
     fn random(&mut self) -> [u8; 16] {
         let octets = self.chance.authenticator();
-        self.trace.add(Event::Drew(octets));
+        self.trace.add(TraceEvent::Drew(octets));
         octets
     }
 
@@ -197,14 +197,14 @@ impl<'a> Wire for TraceWire<'a> {
             Came::Nothing => Received::Nothing,
             Came::Fault => Received::Fault,
         };
-        self.trace.add(Event::Received(self.moment(), came));
+        self.trace.add(TraceEvent::Received(self.moment(), came));
         received
     }
 
     fn send(&mut self, socket: u16, address: [u8; 4], port: u16, octets: &[u8]) -> Delivery {
         let is_handed_over = !self.chance.strikes(self.faults);
         if let Some(copy) = self.trace.copy(octets) {
-            self.trace.add(Event::Went(Gone {
+            self.trace.add(TraceEvent::Went(Gone {
                 socket,
                 to: Endpoint { address, port },
                 octets: copy,

@@ -1,13 +1,13 @@
 //! The walk over the events of one call of a worker, which compares each event with the expected one.
 
-use crate::events::{Came, DownBy, Event, Gone, Mail, Sign};
+use crate::events::{Came, DownBy, Gone, Mail, Sign, TraceEvent};
 use crate::rules::Rule;
 use rad_desk::{Call, Go, Tally};
 
 /// The position of a walk, and what the worker should have done so far.
 #[derive(Clone, Copy)]
 pub struct Walk<'a> {
-    events: &'a [Event],
+    events: &'a [TraceEvent],
     /// How many events were read.
     place: usize,
     /// Whether the worker began all its turns, according to its own tally.
@@ -19,7 +19,7 @@ pub struct Walk<'a> {
 
 impl<'a> Walk<'a> {
     /// Returns a walk that begins at the first event.
-    pub fn new(events: &'a [Event], began_all: bool) -> Walk<'a> {
+    pub fn new(events: &'a [TraceEvent], began_all: bool) -> Walk<'a> {
         Walk {
             events,
             place: 0,
@@ -62,7 +62,7 @@ impl<'a> Walk<'a> {
 
     /// Returns the next event, if no rule was broken. If no event is left, `rule` is broken, or `GOES_ON` if the
     /// worker did not begin all its turns.
-    fn next(&mut self, rule: Rule) -> Option<&'a Event> {
+    fn next(&mut self, rule: Rule) -> Option<&'a TraceEvent> {
         if self.is_broken() {
             return None;
         }
@@ -76,7 +76,7 @@ impl<'a> Walk<'a> {
     }
 
     /// Records that an unexpected event, if there is one, breaks a rule. By `rule` another event was expected.
-    fn misses(&mut self, next: Option<&Event>, rule: Rule) {
+    fn misses(&mut self, next: Option<&TraceEvent>, rule: Rule) {
         if let Some(event) = next {
             self.breaks(rule_of(event, rule));
         }
@@ -86,7 +86,7 @@ impl<'a> Walk<'a> {
     pub fn begins(&mut self) -> (u64, Option<&'a Mail>) {
         self.tally.turns = self.tally.turns.saturating_add(1);
         match self.next(Rule::RECEIVE) {
-            Some(Event::Received(moment, came)) => {
+            Some(TraceEvent::Received(moment, came)) => {
                 self.meets(Sign::Woke, &[], Rule::WOKE);
                 (*moment, self.received(came))
             }
@@ -131,8 +131,8 @@ impl<'a> Walk<'a> {
     /// follow.
     pub fn asks(&mut self, call: Call, rule: Rule) -> bool {
         match self.next(rule) {
-            Some(Event::Signed(Sign::Before(asked, Go::On), _)) if *asked == call => true,
-            Some(Event::Signed(Sign::Before(asked, Go::Stop), _)) if *asked == call => {
+            Some(TraceEvent::Signed(Sign::Before(asked, Go::On), _)) if *asked == call => true,
+            Some(TraceEvent::Signed(Sign::Before(asked, Go::Stop), _)) if *asked == call => {
                 self.ends(Rule::STOPS);
                 false
             }
@@ -146,8 +146,8 @@ impl<'a> Walk<'a> {
     /// Expects that the next turn begins here, or that no event is left.
     pub fn idles(&mut self) {
         match self.events.get(self.place) {
-            Some(Event::Received(..)) | None => {}
-            Some(Event::Signed(Sign::Before(Call::Turn, _), _)) => self.breaks(Rule::TURN),
+            Some(TraceEvent::Received(..)) | None => {}
+            Some(TraceEvent::Signed(Sign::Before(Call::Turn, _), _)) => self.breaks(Rule::TURN),
             Some(_) => self.breaks(Rule::IDLE),
         }
     }
@@ -155,7 +155,7 @@ impl<'a> Walk<'a> {
     /// Expects that the gate is notified that a call was made.
     pub fn made(&mut self, call: Call, rule: Rule) {
         match self.next(rule) {
-            Some(Event::Signed(Sign::After(made), _)) if *made == call => {}
+            Some(TraceEvent::Signed(Sign::After(made), _)) if *made == call => {}
             other => self.misses(other, rule),
         }
     }
@@ -163,7 +163,7 @@ impl<'a> Walk<'a> {
     /// Expects that this is reported to the gate, with these octets.
     pub fn meets(&mut self, sign: Sign, octets: &[u8], rule: Rule) {
         match self.next(rule) {
-            Some(Event::Signed(met, text)) if *met == sign => {
+            Some(TraceEvent::Signed(met, text)) if *met == sign => {
                 self.keeps(rule, text.as_slice() == octets);
             }
             other => self.misses(other, rule),
@@ -173,7 +173,7 @@ impl<'a> Walk<'a> {
     /// Expects the report that the home server is marked down. Returns the request by which it is.
     pub fn went_down(&mut self) -> Option<&'a DownBy> {
         match self.next(Rule::WENT_DOWN) {
-            Some(Event::WentDown(down)) => down.as_ref(),
+            Some(TraceEvent::WentDown(down)) => down.as_ref(),
             other => {
                 self.misses(other, Rule::WENT_DOWN);
                 None
@@ -184,7 +184,7 @@ impl<'a> Walk<'a> {
     /// Expects that the wire draws octets, and returns them.
     pub fn draws(&mut self, rule: Rule) -> [u8; 16] {
         match self.next(rule) {
-            Some(Event::Drew(octets)) => *octets,
+            Some(TraceEvent::Drew(octets)) => *octets,
             other => {
                 self.misses(other, rule);
                 [0; 16]
@@ -194,11 +194,11 @@ impl<'a> Walk<'a> {
 
     /// Expects that these octets are sent, and that the gate is notified right before.
     pub fn sends(&mut self, octets: &[u8], rule: Rule) -> Option<&'a Gone> {
-        let Some(Event::Signed(Sign::Sends(to), text)) = self.next(rule) else {
+        let Some(TraceEvent::Signed(Sign::Sends(to), text)) = self.next(rule) else {
             self.breaks(rule);
             return None;
         };
-        let Some(Event::Went(gone)) = self.next(Rule::TOLD_SENDS) else {
+        let Some(TraceEvent::Went(gone)) = self.next(Rule::TOLD_SENDS) else {
             self.breaks(Rule::TOLD_SENDS);
             return None;
         };
@@ -222,10 +222,10 @@ impl<'a> Walk<'a> {
 
 /// Returns the rule that an unexpected event breaks: the event's own rule, if it has one, and otherwise `rule`, by
 /// which another event was expected.
-fn rule_of(event: &Event, rule: Rule) -> Rule {
+fn rule_of(event: &TraceEvent, rule: Rule) -> Rule {
     match event {
-        Event::Signed(sign, _) => rule_of_sign(*sign, rule),
-        Event::Went(_) => Rule::SENDS_ONCE,
+        TraceEvent::Signed(sign, _) => rule_of_sign(*sign, rule),
+        TraceEvent::Went(_) => Rule::SENDS_ONCE,
         _ => rule,
     }
 }

@@ -3,12 +3,12 @@ use Rattle.std.proofs.Common.{◌≡◌, ℕ, ◌+◌, ◌≤◌, List, [], ◌�
 use Rattle.std.proofs.lemmas.List.{take_at}
 use mathlib.Core.List.{IsPrefix}
 use Rattle.rad_writer.specs.Parcels.{AreCounted, FitsBy, all_octets, octets_by, octets_of}
-use Rattle.rad_writer.specs.declared.parcel.Origin.{Origin}
-use Rattle.rad_writer.specs.declared.parcel.Origin.TheVariants.{Left, Response}
+use Rattle.rad_writer.specs.declared.parcel.ParcelKind.{ParcelKind}
+use Rattle.rad_writer.specs.declared.parcel.ParcelKind.TheVariants.{Left, Response}
 use Rattle.rad_writer.specs.declared.parcel.ParcelHead.{ParcelHead}
 
 -- The packets have as many octets as the head counts.
-pub counted_sum : (its : Origin) (a b c : List ℕ) → AreCounted its a b c → octets_by its ≡ length a + length b + length c
+pub counted_sum : (its : ParcelKind) (a b c : List ℕ) → AreCounted its a b c → octets_by its ≡ length a + length b + length c
 counted_sum (Response serial x y z) a b c is = omega (arith, is.0, is.1, is.2)
 counted_sum (Left fate x) a b c is = omega (arith, is.0, ap length is.1, ap length is.2)
 
@@ -25,7 +25,7 @@ pub whole_with_one : (octets more : List ℕ) (heads : List ParcelHead) (head : 
 whole_with_one octets more heads head whole one = omega (arith, length-append octets more, all_with_one heads head, whole, one)
 
 -- The packets of one head fit in the room.
-pub fits_within : (its : Origin) → FitsBy its → octets_by its ≤ 12288
+pub fits_within : (its : ParcelKind) → FitsBy its → octets_by its ≤ 12288
 fits_within (Response serial x y z) fits = omega (arith, fits.0, fits.1, fits.2)
 fits_within (Left fate x) fits = omega (arith, fits)
 

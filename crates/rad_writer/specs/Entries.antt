@@ -12,8 +12,8 @@ use Rattle.rad_ledger.specs.declared.line_request.LineRequest.{LineRequest}
 use Rattle.rad_packet.specs.Reading.{ReadsAs, Refuses}
 use Rattle.rad_packet.specs.declared.faults.ReadFault.{ReadFault}
 use Rattle.rad_writer.specs.declared.parcel.Fate.{Fate}
-use Rattle.rad_writer.specs.declared.parcel.Origin.{Origin}
-use Rattle.rad_writer.specs.declared.parcel.Origin.TheVariants.{Left as left, Response as response}
+use Rattle.rad_writer.specs.declared.parcel.ParcelKind.{ParcelKind}
+use Rattle.rad_writer.specs.declared.parcel.ParcelKind.TheVariants.{Left as left, Response as response}
 use Rattle.rad_writer.specs.declared.parcel.Parcel.{Parcel}
 use Rattle.rad_writer.specs.declared.parcel.ParcelHead.{ParcelHead}
 use Rattle.rad_writer.specs.declared.run_names.RunNames.{RunNames}
@@ -101,7 +101,7 @@ pub record HasLeftBehind (names : RunNames) (parcel : Parcel) (fate : Fate) (bef
   pub is : IsLeftOf names parcel.head fate parcel.sent.now moment since left
   pub line : HasValueBehind before all (left_value left)
 
-abbrev pub HasLineOf : Origin → RunNames → Parcel → List ℕ → List ℕ → Type 0
+abbrev pub HasLineOf : ParcelKind → RunNames → Parcel → List ℕ → List ℕ → Type 0
 HasLineOf (response serial sent_count reply_count response_count) names parcel before all = HasEntryBehind names parcel serial before all
 HasLineOf (left fate request_count) names parcel before all = HasLeftBehind names parcel fate before all
 

@@ -4,20 +4,20 @@ use Rattle.rad_auth.specs.Mark.{EndsWithMark}
 use Rattle.ledger_files.specs.declared.batch.LineHead.{LineHead}
 use Rattle.rad_lane.specs.declared.outgoing.Outgoing.{Outgoing}
 use Rattle.rad_desk.specs.declared.leaving.LeftRecord.{LeftRecord}
-use Rattle.rad_writer.specs.declared.parcel.Origin.{Origin}
-use Rattle.rad_writer.specs.declared.parcel.Origin.TheVariants.{Left, Response}
+use Rattle.rad_writer.specs.declared.parcel.ParcelKind.{ParcelKind}
+use Rattle.rad_writer.specs.declared.parcel.ParcelKind.TheVariants.{Left, Response}
 use Rattle.rad_writer.specs.declared.parcel.Parcel.{Parcel}
 use Rattle.rad_writer.specs.declared.parcel.ParcelHead.{ParcelHead}
 
 -- How many octets the packets of a parcel have together, by its head; and no packet is longer than 4096 octets.
-abbrev pub octets_by : Origin → ℕ
+abbrev pub octets_by : ParcelKind → ℕ
 octets_by (Response serial sent_count reply_count response_count) = sent_count + reply_count + response_count
 octets_by (Left fate request_count) = request_count
 
 abbrev pub octets_of : ParcelHead → ℕ
 octets_of head = octets_by head.its
 
-abbrev pub FitsBy : Origin → Type 0
+abbrev pub FitsBy : ParcelKind → Type 0
 FitsBy (Response serial sent_count reply_count response_count) = (sent_count ≤ 4096) × (reply_count ≤ 4096) × (response_count ≤ 4096)
 FitsBy (Left fate request_count) = request_count ≤ 4096
 
@@ -34,7 +34,7 @@ all_octets [] = 0
 all_octets (head ∷ heads) = octets_of head + all_octets heads
 
 -- The head has the lengths of these packets. A request that is left is one packet.
-abbrev pub AreCounted : Origin → List ℕ → List ℕ → List ℕ → Type 0
+abbrev pub AreCounted : ParcelKind → List ℕ → List ℕ → List ℕ → Type 0
 AreCounted (Response serial sent_count reply_count response_count) its_sent its_reply its_response =
     (sent_count ≡ length its_sent) × (reply_count ≡ length its_reply) × (response_count ≡ length its_response)
 AreCounted (Left fate request_count) its_sent its_reply its_response =
@@ -79,7 +79,7 @@ pub record HasPackets (head : ParcelHead) (octets : List ℕ) (parcel : Parcel) 
   pub packets : packets_of parcel ≡ octets
 
 -- What a batch keeps of a head: a request that is left has no serial.
-abbrev pub serial_by : Origin → Option ℕ
+abbrev pub serial_by : ParcelKind → Option ℕ
 serial_by (Response serial sent_count reply_count response_count) = Some serial
 serial_by (Left fate request_count) = None
 

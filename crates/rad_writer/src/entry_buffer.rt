@@ -4,7 +4,7 @@ ghost use Rattle.std.specs.Prelude.{◌≡◌, ◌+◌, ◌<◌, ◌≤◌, ◌+
 ghost use Rattle.rtrb.specs.Ring.{known_items, received};
 ghost use Rattle.rad_writer.specs.Parcels.{HasPackets, all_octets, octets_held, octets_of};
 
-use crate::parcel::{MOST, Origin, Parcel, ParcelHead};
+use crate::parcel::{MOST, Parcel, ParcelHead, ParcelKind};
 use crate::shares::ClientShares;
 use rtrb::Consumer;
 use std::alloc::{AllocError, Global};
@@ -135,7 +135,7 @@ fn parcel_of(head: ParcelHead, octets: &[u8]) -> Parcel<'_>
     ensures { HasPackets head (take (octets_of head) octets.now) result }
 {
     match head.its {
-        Origin::Response {
+        ParcelKind::Response {
             sent,
             reply,
             response,
@@ -151,7 +151,7 @@ fn parcel_of(head: ParcelHead, octets: &[u8]) -> Parcel<'_>
                 response,
             }
         }
-        Origin::Left { request, .. } => {
+        ParcelKind::Left { request, .. } => {
             let (request, _) = octets.split_at(request);
             Parcel {
                 head,

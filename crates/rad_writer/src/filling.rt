@@ -7,7 +7,7 @@ ghost use Rattle.rad_writer.specs.Fills.{Fills, HasPassed, Taken};
 ghost use Rattle.rad_writer.specs.Parcels.{IsLineHead};
 
 use crate::lines::line_of;
-use crate::parcel::{Origin, ParcelHead};
+use crate::parcel::{ParcelHead, ParcelKind};
 use crate::writer::LineSource;
 use ledger_files::{Batch, LedgerDisk, LineHead, RunFiles, day_of};
 use ledger_lines::MOST_LINE_OCTETS;
@@ -77,8 +77,8 @@ fn line_head(head: ParcelHead) -> LineHead
         time: head.time,
         lane: head.lane,
         serial: match head.its {
-            Origin::Response { serial, .. } => Some(serial),
-            Origin::Left { .. } => None,
+            ParcelKind::Response { serial, .. } => Some(serial),
+            ParcelKind::Left { .. } => None,
         },
     }
 }

@@ -6,7 +6,7 @@ ghost use Rattle.rad_writer.specs.Entries.{HasEntryBehind, HasLeftBehind, HasPar
 ghost use Rattle.rad_writer.specs.RunLines.{AreCounted, AreStarts, BeginsBehind, EndsBehind, NamesIfAny, count_in, lane_number, serial_in};
 
 use crate::counts::RunCounts;
-use crate::parcel::{Fate, Origin, Parcel, ParcelHead};
+use crate::parcel::{Fate, Parcel, ParcelHead, ParcelKind};
 use crate::progress::LaneProgress;
 use crate::run_names::RunNames;
 use ledger_files::{FoundFile, SUM_OCTETS, UtcTime};
@@ -35,8 +35,8 @@ pub(crate) fn line_of(
     ensures value { IfOk result (λ all. HasParcelBehind names.now parcel.now out.items all.items) }
 {
     match parcel.head.its {
-        Origin::Response { serial, .. } => entry_line(alloc, names, parcel, serial, out),
-        Origin::Left { fate, .. } => left_line(alloc, names, parcel, fate, out),
+        ParcelKind::Response { serial, .. } => entry_line(alloc, names, parcel, serial, out),
+        ParcelKind::Left { fate, .. } => left_line(alloc, names, parcel, fate, out),
     }
 }
 

@@ -26,12 +26,12 @@ pub(crate) struct ParcelHead {
     pub(crate) port: u16,
     pub(crate) identifier: u8,
     pub(crate) authenticator: [u8; 16],
-    pub(crate) its: Origin,
+    pub(crate) its: ParcelKind,
 }
 
 /// What a parcel is of.
 #[derive(Clone, Copy)]
-pub(crate) enum Origin {
+pub(crate) enum ParcelKind {
     Response {
         serial: u64,
         /// How many octets the packet to the home server has.
@@ -94,7 +94,7 @@ impl<'a> Parcel<'a> {
             port: outgoing.port,
             identifier,
             authenticator,
-            its: Origin::Response {
+            its: ParcelKind::Response {
                 serial: outgoing.serial,
                 sent: sent.len(),
                 reply: reply.len(),
@@ -129,7 +129,7 @@ impl<'a> Parcel<'a> {
             port: told.port,
             identifier: told.identifier,
             authenticator,
-            its: Origin::Left {
+            its: ParcelKind::Left {
                 fate,
                 request: told.request.len(),
             },
@@ -155,13 +155,13 @@ impl ParcelHead {
         ensures { IsTrue result ↔ Fits self.now }
     {
         match self.its {
-            Origin::Response {
+            ParcelKind::Response {
                 sent,
                 reply,
                 response,
                 ..
             } => sent <= LONGEST && reply <= LONGEST && response <= LONGEST,
-            Origin::Left { request, .. } => request <= LONGEST,
+            ParcelKind::Left { request, .. } => request <= LONGEST,
         }
     }
 
@@ -171,13 +171,13 @@ impl ParcelHead {
         ensures { result ≡ octets_of self.now }
     {
         match self.its {
-            Origin::Response {
+            ParcelKind::Response {
                 sent,
                 reply,
                 response,
                 ..
             } => sent + reply + response,
-            Origin::Left { request, .. } => request,
+            ParcelKind::Left { request, .. } => request,
         }
     }
 }

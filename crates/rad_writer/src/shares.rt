@@ -3,7 +3,7 @@
 ghost use Rattle.std.specs.Prelude.{◌↔◌, IsTrue};
 ghost use Rattle.rad_writer.specs.Shares.{IsBeyond};
 
-use crate::parcel::{Origin, ParcelHead};
+use crate::parcel::{ParcelHead, ParcelKind};
 use rad_realms::Client;
 use std::alloc::{AllocError, Global};
 use std::collections::BTreeMap;
@@ -61,7 +61,7 @@ impl ClientShares {
 
     /// Counts an entry as passed: it no longer takes anything of the buffer. A request that is left counts for nobody.
     pub(crate) fn pass(&self, head: &ParcelHead, octets: usize) {
-        if let Origin::Left { .. } = head.its {
+        if let ParcelKind::Left { .. } = head.its {
             return;
         }
         if let Some(passed) = self.row(head.client).and_then(|row| self.passed.get(row)) {

@@ -4,21 +4,21 @@ use denote.RawPtr.{Ptr}
 use Rattle.raw_lists.specs.Nodes.{cell_at, BeginsAt, EndsAt, IsShownAt}
 use Rattle.raw_lists.specs.Chain.{elems, first_place, last_place, IsFollowed, IsLinked, IsStep}
 use Rattle.raw_lists.specs.declared.chain.Node.{Node}
-use Rattle.raw_lists.specs.declared.nodes.Place.{Place}
+use Rattle.raw_lists.specs.declared.nodes.NodePlace.{NodePlace}
 
 module _ {E : Type 0} where
   value_is : (a b : Ptr × Node E) → Some a ≡ Some b → a.1 ≡ b.1
   value_is a b e = let same : a ≡ b = cc in ap (λ w. w.1) same
 
-  pub begins_at : (cells : List (Ptr × Node E)) (head : Place) → first_place cells ≡ Some head → BeginsAt cells head.at
+  pub begins_at : (cells : List (Ptr × Node E)) (head : NodePlace) → first_place cells ≡ Some head → BeginsAt cells head.at
   unfolding first_place
   begins_at [] head e = cc
-  begins_at (cell ∷ cells) head e = let place : Place = record { at = cell.0 } in let same : place ≡ head = cc in (cell.1, cells, ap (λ (p : Place). (p.at, cell.1) ∷ cells) same)
+  begins_at (cell ∷ cells) head e = let place : NodePlace = record { at = cell.0 } in let same : place ≡ head = cc in (cell.1, cells, ap (λ (p : NodePlace). (p.at, cell.1) ∷ cells) same)
 
-  pub ends_at : (cells : List (Ptr × Node E)) (tail : Place) → last_place cells ≡ Some tail → EndsAt cells tail.at
+  pub ends_at : (cells : List (Ptr × Node E)) (tail : NodePlace) → last_place cells ≡ Some tail → EndsAt cells tail.at
   unfolding last_place
   ends_at [] tail e = cc
-  ends_at (cell ∷ []) tail e = let place : Place = record { at = cell.0 } in let same : place ≡ tail = cc in (cell.1, [], ap (λ (p : Place). (p.at, cell.1) ∷ []) same)
+  ends_at (cell ∷ []) tail e = let place : NodePlace = record { at = cell.0 } in let same : place ≡ tail = cc in (cell.1, [], ap (λ (p : NodePlace). (p.at, cell.1) ∷ []) same)
   ends_at (cell ∷ next ∷ cells) tail e = let more = ends_at (next ∷ cells) tail e in (more.0, cell ∷ more.1, ap (λ l. cell ∷ l) more.2)
 
   first_of : (front more : List (Ptr × Node E)) (p : Ptr) (x y : Node E) → first_place (front ++ (p, x) ∷ []) ≡ first_place ((front ++ (p, y) ∷ []) ++ more)
@@ -26,14 +26,14 @@ module _ {E : Type 0} where
   first_of [] more p x y = refl
   first_of (cell ∷ front) more p x y = refl
 
-  last_of : (front more : List (Ptr × Node E)) (next : Place) → first_place more ≡ Some next → last_place (front ++ more) ≡ last_place more
+  last_of : (front more : List (Ptr × Node E)) (next : NodePlace) → first_place more ≡ Some next → last_place (front ++ more) ≡ last_place more
   unfolding first_place last_place
   last_of [] more next e = refl
   last_of (cell ∷ []) [] next e = cc
   last_of (cell ∷ []) (other ∷ more) next e = refl
   last_of (cell ∷ then ∷ front) more next e = last_of (then ∷ front) more next e
 
-  followed_on : (front more : List (Ptr × Node E)) (p : Ptr) (x y : Node E) (next : Place) → IsFollowed (front ++ (p, x) ∷ []) → IsFollowed more → first_place more ≡ Some next → y.next ≡ Some next
+  followed_on : (front more : List (Ptr × Node E)) (p : Ptr) (x y : Node E) (next : NodePlace) → IsFollowed (front ++ (p, x) ∷ []) → IsFollowed more → first_place more ≡ Some next → y.next ≡ Some next
       → IsFollowed ((front ++ (p, y) ∷ []) ++ more)
   unfolding IsFollowed
   followed_on [] more p x y next h m e f = (f ∙ sym e, m)
@@ -45,7 +45,7 @@ module _ {E : Type 0} where
   elems_on (cell ∷ front) more p x y e = ap (λ l. cell.1.elem ∷ l) (elems_on front more p x y e)
 
   -- a chain whose last node leads on to another chain
-  pub joined_on : (head tail next end : Place) (cells more front new : List (Ptr × Node E)) (x y : Node E) → IsLinked head tail cells → IsLinked next end more
+  pub joined_on : (head tail next end : NodePlace) (cells more front new : List (Ptr × Node E)) (x y : Node E) → IsLinked head tail cells → IsLinked next end more
       → cells ≡ front ++ (tail.at, x) ∷ [] → y.next ≡ Some next → y.elem ≡ x.elem → new ≡ (front ++ (tail.at, y) ∷ []) ++ more
       → IsLinked head end new × (elems new ≡ elems cells ++ elems more)
   joined_on head tail next end cells more front new x y one two e leads same made = (
@@ -58,14 +58,14 @@ module _ {E : Type 0} where
   )
 
   -- a chain without its first node
-  pub parted_on : (head tail next : Place) (cells more : List (Ptr × Node E)) (x : Node E) → IsLinked head tail cells → cells ≡ (head.at, x) ∷ more → x.next ≡ Some next
+  pub parted_on : (head tail next : NodePlace) (cells more : List (Ptr × Node E)) (x : Node E) → IsLinked head tail cells → cells ≡ (head.at, x) ∷ more → x.next ≡ Some next
       → IsLinked next tail more
   unfolding last_place IsFollowed first_place
   parted_on head tail next cells [] x is e leads = let f = subst IsFollowed e is.followed in let no = sym leads ∙ f.0 in cc
   parted_on head tail next cells (cell ∷ more) x is e leads =
       let f = subst IsFollowed e is.followed in record { begins = sym f.0 ∙ leads; ends = ap last_place (sym e) ∙ is.ends; followed = f.1 }
 
-  pub none_after : (head tail : Place) (cells more : List (Ptr × Node E)) (x : Node E) → IsLinked head tail cells → cells ≡ (head.at, x) ∷ more → x.next ≡ None → more ≡ []
+  pub none_after : (head tail : NodePlace) (cells more : List (Ptr × Node E)) (x : Node E) → IsLinked head tail cells → cells ≡ (head.at, x) ∷ more → x.next ≡ None → more ≡ []
   unfolding IsFollowed first_place
   none_after head tail cells [] x is e none = refl
   none_after head tail cells (cell ∷ more) x is e none = let f = subst IsFollowed e is.followed in let no = sym none ∙ f.0 in cc
@@ -78,7 +78,7 @@ module _ {E : Type 0} where
   unfolding elems
   elems_none cells e = ap elems e
 
-  pub one_linked : (place : Place) (cells : List (Ptr × Node E)) (elem : E) → cells ≡ (place.at, record { next = None; elem = elem }) ∷ [] → IsLinked place place cells × (elems cells ≡ elem ∷ [])
+  pub one_linked : (place : NodePlace) (cells : List (Ptr × Node E)) (elem : E) → cells ≡ (place.at, record { next = None; elem = elem }) ∷ [] → IsLinked place place cells × (elems cells ≡ elem ∷ [])
   unfolding elems first_place last_place IsFollowed
   one_linked place cells elem e = (
     record { begins = ap first_place e; ends = ap last_place e; followed = subst IsFollowed (sym e) (refl, tt) },
@@ -101,7 +101,7 @@ module _ {E : Type 0} where
   length-elems [] = refl
   length-elems (cell ∷ cells) = ap suc (length-elems cells)
 
-  pub begun : (head tail : Place) (cells : List (Ptr × Node E)) → IsLinked head tail cells → length (elems cells) < 2 ^ 64 → IsStep 0 (Some head) cells
+  pub begun : (head tail : NodePlace) (cells : List (Ptr × Node E)) → IsLinked head tail cells → length (elems cells) < 2 ^ 64 → IsStep 0 (Some head) cells
   begun head tail cells is few = let n = length-elems cells in record { here = sym is.begins; followed = is.followed; few = omega arith; within = omega arith }
 
   followed_at : (cells : List (Ptr × Node E)) (i : ℕ) → IsFollowed cells → IsFollowed (drop i cells)
@@ -119,17 +119,17 @@ module _ {E : Type 0} where
   none_at (cell ∷ cells) (suc i) e = none_at cells i e
 
   -- the node that a step is at
-  pub some_at : (cells : List (Ptr × Node E)) (i : ℕ) (place : Place) → Some place ≡ first_place (drop i cells)
+  pub some_at : (cells : List (Ptr × Node E)) (i : ℕ) (place : NodePlace) → Some place ≡ first_place (drop i cells)
       → (x : Node E) × (slice_get cells i ≡ Some (place.at, x)) × (drop i cells ≡ (place.at, x) ∷ drop (i + 1) cells) × (i < length cells)
   unfolding first_place
   some_at [] zero place e = cc
   some_at [] (suc i) place e = cc
-  some_at (cell ∷ cells) zero place e = let here : Place = record { at = cell.0 } in let same : here ≡ place = cc in
-      (cell.1, ap (λ (p : Place). Some (p.at, cell.1)) same, ap (λ (p : Place). (p.at, cell.1) ∷ cells) same, omega arith)
+  some_at (cell ∷ cells) zero place e = let here : NodePlace = record { at = cell.0 } in let same : here ≡ place = cc in
+      (cell.1, ap (λ (p : NodePlace). Some (p.at, cell.1)) same, ap (λ (p : NodePlace). (p.at, cell.1) ∷ cells) same, omega arith)
   some_at (cell ∷ cells) (suc i) place e = let next : suc (i + 1) ≡ suc i + 1 = omega arith in let more = some_at cells i place e in let w = more.3 in
       (more.0, more.1, more.2 ∙ ap (λ n. (place.at, more.0) ∷ drop n (cell ∷ cells)) next, omega arith)
 
-  pub shown_at : (cells : List (Ptr × Node E)) (i : ℕ) (next : Option Place) (place : Place) (x : Node E) → IsStep i next cells → next ≡ Some place → IsShownAt cells i place.at x
+  pub shown_at : (cells : List (Ptr × Node E)) (i : ℕ) (next : Option NodePlace) (place : NodePlace) (x : Node E) → IsStep i next cells → next ≡ Some place → IsShownAt cells i place.at x
       → IsStep (i + 1) x.next cells × (elems (drop i cells) ≡ x.elem ∷ elems (drop (i + 1) cells))
   unfolding IsFollowed elems
   shown_at cells i next place x is e seen =

@@ -37,7 +37,7 @@ use Rattle.raw_lists.specs.Nodes.{nodes_own, nodes_lent, cell_at, IsHeld}
 use Rattle.raw_lists.proofs.Regions.{sz, Rg, D, region_val, region_had, region_made}
 use Rattle.raw_lists.specs.declared.nodes.Nodes.{Nodes}
 use Rattle.raw_lists.specs.contracts.nodes.Nodes as C
-use Rattle.raw_lists.specs.contracts.nodes.Place as Spot
+use Rattle.raw_lists.specs.contracts.nodes.NodePlace as Spot
 
 abbrev pub nodes_val : Val
 nodes_val = vstruct (vcons (vstruct vnil) (vcons (vstruct vnil) vnil))

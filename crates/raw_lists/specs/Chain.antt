@@ -3,7 +3,7 @@ use Rattle.std.specs.Prelude.{◌≡◌, ℕ, ◌<◌, ◌≤◌, ◌^◌, List,
 use Rattle.std.specs.Borrow.{Bor}
 use denote.RawPtr.{Ptr}
 use Rattle.raw_lists.specs.declared.chain.Node.{Node}
-use Rattle.raw_lists.specs.declared.nodes.Place.{Place}
+use Rattle.raw_lists.specs.declared.nodes.NodePlace.{NodePlace}
 
 module _ {E : Type 0} where
   -- the elements of the nodes, in order
@@ -12,12 +12,12 @@ module _ {E : Type 0} where
   elems (cell ∷ cells) = cell.1.elem ∷ elems cells
 
   -- the place of the first node
-  unfoldable pub first_place : List (Ptr × Node E) → Option Place
+  unfoldable pub first_place : List (Ptr × Node E) → Option NodePlace
   first_place [] = None
   first_place (cell ∷ cells) = Some (record { at = cell.0 })
 
   -- the place of the last node
-  unfoldable pub last_place : List (Ptr × Node E) → Option Place
+  unfoldable pub last_place : List (Ptr × Node E) → Option NodePlace
   last_place [] = None
   last_place (cell ∷ []) = Some (record { at = cell.0 })
   last_place (cell ∷ next ∷ cells) = last_place (next ∷ cells)
@@ -28,13 +28,13 @@ module _ {E : Type 0} where
   IsFollowed (cell ∷ cells) = (cell.1.next ≡ first_place cells) × IsFollowed cells
 
   -- linked nodes from one end to the other
-  pub record IsLinked (head tail : Place) (cells : List (Ptr × Node E)) : Type 0 where
+  pub record IsLinked (head tail : NodePlace) (cells : List (Ptr × Node E)) : Type 0 where
     pub begins : first_place cells ≡ Some head
     pub ends : last_place cells ≡ Some tail
     pub followed : IsFollowed cells
 
   -- the place of the node at an index, or none after the last node
-  pub record IsStep (index : ℕ) (next : Option Place) (cells : List (Ptr × Node E)) : Type 0 where
+  pub record IsStep (index : ℕ) (next : Option NodePlace) (cells : List (Ptr × Node E)) : Type 0 where
     pub here : next ≡ first_place (drop index cells)
     pub followed : IsFollowed cells
     pub few : length cells < 2 ^ 64

@@ -3,14 +3,14 @@ ghost use Rattle.std.specs.Prelude.{◌≡◌, ◌^◌, ◌<◌, [], ◌∷◌, 
 ghost use Rattle.std.specs.Map.Iter.{TakesFirst, deref};
 ghost use Rattle.raw_lists.specs.Chain.{joined};
 
-use crate::nodes::{Nodes, Place};
+use crate::nodes::{NodePlace, Nodes};
 use crate::region::Region;
 use std::alloc::{AllocError, Global};
 use std::marker::Model;
 
 /// An element, and the place of the next node.
 pub(crate) struct Node<E> {
-    next: Option<Place>,
+    next: Option<NodePlace>,
     elem: E,
 }
 
@@ -54,8 +54,8 @@ impl<E> Drop for Allocation<E> {
 
 /// A chain of one or more elements.
 pub(crate) struct Chain<E> {
-    head: Place,
-    tail: Place,
+    head: NodePlace,
+    tail: NodePlace,
     nodes: Nodes<Node<E>, Global>,
     alloc: Global,
 }
@@ -194,7 +194,7 @@ impl<E: Drop> Drop for Chain<E> {
 pub(crate) struct Steps<'a, E> {
     nodes: &'a Nodes<Node<E>, Global>,
     index: usize,
-    next: Option<Place>,
+    next: Option<NodePlace>,
 }
 
 impl<'a, E> Model for Steps<'a, E> {

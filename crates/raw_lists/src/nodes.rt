@@ -9,11 +9,11 @@ use std::marker::{Model, PhantomData, Send};
 
 /// The place of a node. It owns nothing.
 #[derive(Clone, Copy)]
-pub(crate) struct Place {
+pub(crate) struct NodePlace {
     at: *mut u8,
 }
 
-unsafe impl Send for Place {}
+unsafe impl Send for NodePlace {}
 
 /// The owner of nodes, each in a region of one place. Whoever follows the nodes has their places.
 pub(crate) struct Nodes<T, A: Allocator> {
@@ -33,7 +33,7 @@ unsafe impl<T: Send, A: Allocator + Send> Send for Nodes<T, A> {}
 
 impl<T, A: Allocator> Nodes<T, A> {
     /// Makes a node of a region. Returns the node and its place.
-    pub(crate) fn one(node: Region<T, A>) -> (Nodes<T, A>, Place)
+    pub(crate) fn one(node: Region<T, A>) -> (Nodes<T, A>, NodePlace)
         requires { IsHeld node.places }
         ensures cells { result.0.cells ≡ cell_at result.1.at node.places }
         ensures place { (result.1.at ≡ node.first) × (result.0.heap ≡ node.heap) }
@@ -45,7 +45,7 @@ impl<T, A: Allocator> Nodes<T, A> {
         };
         (
             nodes,
-            Place {
+            NodePlace {
                 at: first as *mut u8,
             },
         )
@@ -61,7 +61,7 @@ impl<T, A: Allocator> Nodes<T, A> {
     }
 
     /// Detaches the first node, which is at `place`, from the others.
-    pub(crate) fn take_first(self, place: Place) -> (Region<T, A>, Nodes<T, A>)
+    pub(crate) fn take_first(self, place: NodePlace) -> (Region<T, A>, Nodes<T, A>)
         requires { BeginsAt self.cells place.at }
         ensures cells { self.cells ≡ cell_at place.at result.0.places ++ result.1.cells }
         ensures node { IsHeld result.0.places × (result.0.first ≡ place.at) }
@@ -75,7 +75,7 @@ impl<T, A: Allocator> Nodes<T, A> {
     }
 
     /// Detaches the last node, which is at `place`, from the others.
-    pub(crate) fn take_last(self, place: Place) -> (Region<T, A>, Nodes<T, A>)
+    pub(crate) fn take_last(self, place: NodePlace) -> (Region<T, A>, Nodes<T, A>)
         requires { EndsAt self.cells place.at }
         ensures cells { self.cells ≡ result.1.cells ++ cell_at place.at result.0.places }
         ensures node { IsHeld result.0.places × (result.0.first ≡ place.at) }
@@ -90,7 +90,7 @@ impl<T, A: Allocator> Nodes<T, A> {
 
     /// Returns the node at an index, which is at `place`.
     #[inline]
-    pub(crate) fn get(&self, _index: usize, place: Place) -> &T
+    pub(crate) fn get(&self, _index: usize, place: NodePlace) -> &T
         requires { LiesAt self.now.cells _index place.at }
         ensures { IsShownAt self.now.cells _index place.at result.now }
     {

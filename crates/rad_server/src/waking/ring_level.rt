@@ -29,19 +29,19 @@ pub(crate) struct RingLevel(Arc<Shared>);
 
 /// How full a ring was when the front took a response, and is now.
 #[derive(Clone, Copy)]
-pub(crate) struct Taken {
+pub(crate) struct RingReading {
     /// Whether no place was free, so that the lane's worker may wait for one.
     pub(crate) was_full: bool,
     /// Whether more than half of the places are in use.
     pub(crate) is_crowded: bool,
 }
 
-impl Taken {
-    fn from(before: u64, places: u64) -> Taken
+impl RingReading {
+    fn from(before: u64, places: u64) -> RingReading
         ensures full { IsTrue result.was_full ↔ (places ≤ before) }
         ensures crowded { IsTrue result.is_crowded ↔ (places + 2 < 2 * before) }
     {
-        Taken {
+        RingReading {
             was_full: before >= places,
             is_crowded: before > 0 && before - 1 > places / 2,
         }
@@ -78,9 +78,9 @@ impl RingLevel {
     }
 
     /// Counts a response that the front took and sent.
-    pub(crate) fn count_taken(&self) -> Taken {
+    pub(crate) fn count_taken(&self) -> RingReading {
         let taken = self.0.taken.fetch_add(1, Ordering::SeqCst);
-        Taken::from(self.in_use_after(taken), self.0.places)
+        RingReading::from(self.in_use_after(taken), self.0.places)
     }
 
     pub(crate) fn taken(&self) -> u64 {

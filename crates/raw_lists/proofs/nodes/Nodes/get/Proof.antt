@@ -31,7 +31,7 @@ use Rattle.core.proofs.slots.Bodies.{after}
 use Rattle.core.proofs.slots.Leases.{args}
 use Rattle.raw_lists.specs.Nodes.{LiesAt, IsShownAt, nodes_lent}
 use Rattle.raw_lists.specs.Region.{region_lent}
-use Rattle.raw_lists.specs.contracts.nodes.Place as Spot
+use Rattle.raw_lists.specs.contracts.nodes.NodePlace as Spot
 use Rattle.raw_lists.proofs.NodeSteps.{Nr, N, place_val, place_good, place_told, nodes_shown, node_seen}
 use Rattle.raw_lists.specs.contracts.nodes.Nodes.get.{ended, clauses}
 use Rattle.raw_lists.specs.contracts.nodes.Nodes.get.Key.{name as #self}

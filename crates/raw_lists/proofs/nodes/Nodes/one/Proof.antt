@@ -24,7 +24,7 @@ use Rattle.core.proofs.mem.Param.{El}
 use Rattle.core.proofs.alloc.Calls.{Al}
 use Rattle.core.proofs.slots.Leases.{args}
 use Rattle.raw_lists.specs.Nodes.{IsHeld, cell_at}
-use Rattle.raw_lists.specs.contracts.nodes.Place as Spot
+use Rattle.raw_lists.specs.contracts.nodes.NodePlace as Spot
 use Rattle.raw_lists.proofs.Regions.{Rg, D, region_val, region_told, region_good}
 use Rattle.raw_lists.proofs.NodeSteps.{Nr, N, nodes_val, nodes_ty, nodes_good, nodes_made, place_val, place_ty, place_good, place_made, ptr_good, node_of}
 use Rattle.raw_lists.specs.contracts.nodes.Nodes.one.{ended, clauses}

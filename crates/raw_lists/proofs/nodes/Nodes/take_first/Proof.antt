@@ -26,7 +26,7 @@ use Rattle.core.proofs.mem.Param.{El, el_x}
 use Rattle.core.proofs.alloc.Calls.{Al}
 use Rattle.core.proofs.slots.Leases.{args}
 use Rattle.raw_lists.specs.Nodes.{IsHeld, BeginsAt, cell_at}
-use Rattle.raw_lists.specs.contracts.nodes.Place as Spot
+use Rattle.raw_lists.specs.contracts.nodes.NodePlace as Spot
 use Rattle.raw_lists.proofs.Regions.{Rg, D, region_val, region_good}
 use Rattle.raw_lists.proofs.NodeSteps.{Nr, N, Held, nodes_val, nodes_ty, nodes_good, nodes_told, nodes_had, nodes_made, place_val, place_good, place_told, node_out}
 use Rattle.raw_lists.specs.contracts.nodes.Nodes.take_first.{ended, clauses}
