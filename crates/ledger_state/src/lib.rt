@@ -9,7 +9,7 @@
 
 mod fault;
 mod file_sums;
-mod lane_serials;
+mod lane_state;
 mod log_lines;
 mod state;
 

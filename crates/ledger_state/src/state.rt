@@ -1,8 +1,10 @@
 //! What the thread that writes the ledger shares with the front and with the reporter.
 
+ghost use Rattle.std.specs.Prelude.{◌≡◌, ◌≤◌, None, vec_len};
+
 use crate::fault::LedgerFault;
 use crate::file_sums::{FileSum, FileSums};
-use crate::lane_serials::{LaneSerials, LostSerials};
+use crate::lane_state::{LaneState, LostSerials};
 use crate::log_lines::{LedgerLine, log_ledger_fault};
 use rad_log::{Level, Log, WriterState, tell};
 use std::alloc::{AllocError, Global};
@@ -50,7 +52,7 @@ pub struct LedgerState {
     /// How many entries were written to a file that was gone while it was open.
     lost: AtomicU64,
     /// The lanes, in order.
-    lanes: Vec<LaneSerials>,
+    lanes: Vec<LaneState>,
     /// The sums that are to be logged.
     sums: FileSums,
     /// The fault that is to be logged, as a number; 0 if there is none.
@@ -81,7 +83,7 @@ impl LedgerState {
         for _ in 0..clients {
             client_dropped.push(AtomicU64::new(0))?;
         }
-        let lanes = LaneSerials::of_lanes(alloc, lanes)?;
+        let lanes = LaneState::of_lanes(alloc, lanes)?;
         let sums = FileSums::new(alloc)?;
         Ok(LedgerState {
             begun: AtomicU64::new(0),
@@ -118,15 +120,25 @@ impl LedgerState {
 
     /// Records that the response of this serial of a lane was handed over.
     pub fn hand_over(&self, lane: u16, serial: u64) {
-        if let Some(serials) = self.lanes.get(usize::from(lane)) {
-            serials.hand_over(serial);
+        if let Some(state) = self.lanes.get(usize::from(lane)) {
+            state.hand_over(serial);
+        }
+    }
+
+    /// Returns how many responses of a lane were handed over; 0 if there is no such lane.
+    pub fn handed(&self, lane: usize) -> u64
+        ensures { vec_len self.now.lanes ≤ lane → result ≡ 0 }
+    {
+        match self.lanes.get(lane) {
+            Some(state) => state.handed(),
+            None => 0,
         }
     }
 
     /// Records that the entry of this serial of a lane was written.
     pub fn write(&self, lane: u16, serial: u64) {
-        if let Some(serials) = self.lanes.get(usize::from(lane)) {
-            serials.write(serial);
+        if let Some(state) = self.lanes.get(usize::from(lane)) {
+            state.write(serial);
         }
     }
 
@@ -152,16 +164,34 @@ impl LedgerState {
         self.written.fetch_add(count, Ordering::SeqCst);
     }
 
-    /// Counts a request that was told as left, at this moment if the clock can be read. Returns the moment of the first
-    /// one, if it is known.
-    pub fn count_left<R: Clock>(&self, rt: &R) -> Option<Instant> {
+    /// Counts a request of a lane that was told as left, at this moment if the clock can be read. Returns the moment of the
+    /// first one, if it is known.
+    pub fn count_left<R: Clock>(&self, rt: &R, lane: u16) -> Option<Instant> {
         self.left.fetch_add(1, Ordering::SeqCst);
+        if let Some(state) = self.lanes.get(usize::from(lane)) {
+            state.leave();
+        }
         if self.left_since.get().is_none()
             && let Ok(now) = Instant::now(rt)
         {
             let _ = self.left_since.try_set(now);
         }
         self.left_since.get().copied()
+    }
+
+    /// Records how many requests a lane accepted. All that is left of it was counted before.
+    pub fn end_lane(&self, lane: u16, accepted: u64) {
+        if let Some(state) = self.lanes.get(usize::from(lane)) {
+            state.end(accepted);
+        }
+    }
+
+    /// Returns how many requests of a lane were accepted, and how many of them are left, once all that is left of it was
+    /// told.
+    pub fn ended_lane(&self, lane: usize) -> Option<(u64, u64)>
+        ensures { vec_len self.now.lanes ≤ lane → result ≡ None }
+    {
+        self.lanes.get(lane)?.ended()
     }
 
     /// Counts lines of requests that are left, which were written.
@@ -184,8 +214,8 @@ impl LedgerState {
     /// Counts entries of a lane that were written to a file that is gone: so many, from the serial `from` to `to`.
     pub fn lose(&self, lane: u16, count: u64, from: u64, to: u64) {
         self.lost.fetch_add(count, Ordering::SeqCst);
-        if let Some(serials) = self.lanes.get(usize::from(lane)) {
-            serials.lose(LostSerials { count, from, to });
+        if let Some(state) = self.lanes.get(usize::from(lane)) {
+            state.lose(LostSerials { count, from, to });
         }
     }
 
@@ -287,8 +317,8 @@ impl LedgerState {
 
     /// Logs which entries are lost, if that is not logged yet.
     fn tell_lost<L: Log>(&self, log: &L) {
-        for (lane, serials) in self.lanes.iter().enumerate() {
-            if let Some(lost) = serials.take_lost() {
+        for (lane, state) in self.lanes.iter().enumerate() {
+            if let Some(lost) = state.take_lost() {
                 let lane = lane as u64;
                 let line = LedgerLine::Lost(lane, lost.count, lost.from, lost.to);
                 tell(log, Level::Error, &line);
@@ -315,8 +345,8 @@ impl LedgerState {
 
     /// Logs which serials of each lane are not written, behind the last one that is.
     fn tell_missing<L: Log>(&self, log: &L) {
-        for (lane, serials) in self.lanes.iter().enumerate() {
-            if let Some((from, to)) = serials.missing() {
+        for (lane, state) in self.lanes.iter().enumerate() {
+            if let Some((from, to)) = state.missing() {
                 let line = LedgerLine::Missing(lane as u64, from, to);
                 tell(log, Level::Error, &line);
             }

@@ -4,7 +4,6 @@ ghost use Rattle.std.specs.Prelude.{◌≡◌, ◌⊎◌, Some, MatchBool, vec_l
 ghost use Rattle.rad_writer.specs.Buffer.{Gives, GivesNothing, PutsEntry};
 ghost use Rattle.rad_writer.specs.Parcels.{IsCounted};
 
-use crate::counts::RunCounts;
 use crate::giving::ParcelGiver;
 use crate::parcel::{Parcel, ParcelHead};
 use crate::shares::{ClientShares, NOTHING, Taking};
@@ -32,7 +31,6 @@ pub struct LedgerInlet<'a, R> {
     /// What the entries of each client took of the buffer so far, in the order of the configuration.
     pub(crate) puts: Vec<Taking>,
     pub(crate) shares: Arc<ClientShares>,
-    pub(crate) counts: Arc<RunCounts>,
     pub(crate) state: Arc<LedgerState>,
     /// What was handed over so far, also what was dropped.
     pub(crate) handed: Handed,
@@ -58,7 +56,6 @@ impl<R: Clock + Wait> Ledger for LedgerInlet<'_, R> {
 
     fn keep<W: Wire>(&mut self, outgoing: &Outgoing, wire: &W) {
         let lane = outgoing.reply.mark().lane;
-        self.counts.took(lane, outgoing.serial);
         self.state.hand_over(lane, outgoing.serial);
         let row = self.shares.row(outgoing.client);
         if self.put(outgoing, row) {
@@ -70,14 +67,13 @@ impl<R: Clock + Wait> Ledger for LedgerInlet<'_, R> {
     }
 
     fn leave(&mut self, told: &LeftRecord<'_>) {
-        let since = self.state.count_left(self.clock);
-        self.counts.leaves(told.lane);
+        let since = self.state.count_left(self.clock, told.lane);
         let parcel = Parcel::of_left(self.read_time(), told);
         self.give_waiting(&parcel, since);
     }
 
     fn end_lane(&mut self, lane: u16, counts: &Counts) {
-        self.counts.accepted(lane, counts.accepted);
+        self.state.end_lane(lane, counts.accepted);
     }
 }
 

@@ -16,7 +16,6 @@
 //! that.
 #![tactic(auto)]
 
-mod counts;
 mod entry_buffer;
 mod file_before;
 mod filling;
@@ -31,7 +30,6 @@ mod runtime_disk;
 mod shares;
 mod writer;
 
-pub use counts::RunCounts;
 pub use inlet::LedgerInlet;
 pub use ledger_files::LedgerDisk;
 pub use opening::{OpenedLedger, find_folder, open_ledger, start_writer};

@@ -5,7 +5,6 @@ ghost use Rattle.ledger_lines.specs.Written.{HasLineBehind};
 ghost use Rattle.rad_writer.specs.Entries.{HasEntryBehind, HasLeftBehind, HasParcelBehind, IsAboutOf, IsEntryOf, IsLeftOf, IsMomentIfAny, IsMomentText, Tells};
 ghost use Rattle.rad_writer.specs.RunLines.{AreCounted, AreStarts, BeginsBehind, EndsBehind, NamesIfAny, count_in, lane_number, serial_in};
 
-use crate::counts::RunCounts;
 use crate::parcel::{Fate, Parcel, ParcelHead, ParcelKind};
 use crate::progress::LaneProgress;
 use crate::run_names::RunNames;
@@ -13,6 +12,7 @@ use ledger_files::{FoundFile, SUM_OCTETS, UtcTime};
 use ledger_lines::{
     Begin, End, FileBefore, LaneCount, LaneStart, write_begin, write_end, write_entry, write_left,
 };
+use ledger_state::LedgerState;
 use rad_desk::{status_of, user_of};
 use rad_lane::session_of;
 use rad_ledger::{Entry, Left, LineRequest};
@@ -299,24 +299,24 @@ fn lane_starts<'a>(
     Ok(lanes)
 }
 
-/// Returns the run's lanes, each with how many responses of it were taken, and, once that was told, how many requests it
+/// Returns the run's lanes, each with how many responses of it were handed over, and, once that was told, how many requests it
 /// accepted and how many of them are left.
 fn lane_counts(
     alloc: Global,
     names: &RunNames,
-    counts: &RunCounts,
+    state: &LedgerState,
 ) -> Result<Vec<LaneCount>, AllocError>
     ensures { IfOk result (λ lanes. AreCounted (length names.now.homes.items) lanes.items) }
 {
     let mut lanes = Vec::with_capacity(alloc, names.homes.len())?;
     for lane in 0..names.homes.len() {
-        let end = counts.end_of_lane(lane);
-        lanes.push(count_of(lane, counts.of_lane(lane), end))?;
+        let end = state.ended_lane(lane);
+        lanes.push(count_of(lane, state.handed(lane), end))?;
     }
     Ok(lanes)
 }
 
-/// Returns a lane, with how many responses of it were taken, and, once that was told, how many requests it accepted and
+/// Returns a lane, with how many responses of it were handed over, and, once that was told, how many requests it accepted and
 /// how many of them are left.
 fn count_of(lane: usize, entries: u64, end: Option<(u64, u64)>) -> LaneCount
     ensures { result ≡ count_in lane entries end }
@@ -356,14 +356,14 @@ pub(crate) fn end_line(
     names: &RunNames,
     time: u64,
     sum: [u8; SUM_OCTETS],
-    counts: &RunCounts,
+    state: &LedgerState,
     out: Vec<u8>,
 ) -> Result<Vec<u8>, AllocError>
     ensures line { IfOk result (λ all. HasLineBehind out.items all.items) }
     ensures end { IfOk result (λ all. EndsBehind names.now sum out.items all.items) }
 {
     let time = time_text(alloc, time)?;
-    let lanes = lane_counts(alloc, names, counts)?;
+    let lanes = lane_counts(alloc, names, state)?;
     let end = End {
         run: names.run,
         time: time.as_str(),

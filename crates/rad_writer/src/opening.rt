@@ -4,7 +4,6 @@ ghost use Rattle.std.specs.Prelude.{◌≡◌, [], length, vec_len, IfOk};
 ghost use Rattle.rad_writer.specs.Buffer.{HasRoom};
 ghost use Rattle.rad_writer.specs.RunNames.{AreNamesOf};
 
-use crate::counts::RunCounts;
 use crate::entry_buffer::EntryBuffer;
 use crate::filling::new_batch;
 use crate::giving::{PLACES, ParcelGiver, ROOM};
@@ -86,7 +85,6 @@ pub fn open_ledger<'a, R: Clock + RandomSource>(
     let lanes = config.homes().len();
     let clients = config.clients();
     let shared = Shared {
-        counts: Arc::new(alloc, RunCounts::new(alloc, lanes)?)?,
         state: Arc::new(alloc, LedgerState::new(alloc, lanes, clients.len())?)?,
         shares: Arc::new(alloc, ClientShares::new(alloc, clients)?)?,
     };
@@ -113,7 +111,6 @@ pub fn open_ledger<'a, R: Clock + RandomSource>(
 /// What both ends of a ledger share.
 #[derive(Drop)]
 struct Shared {
-    counts: Arc<RunCounts>,
     state: Arc<LedgerState>,
     shares: Arc<ClientShares>,
 }
@@ -148,7 +145,6 @@ fn open_inlet<'a, R: Clock>(
         giver,
         puts,
         shares: Arc::try_clone(&shared.shares)?,
-        counts: Arc::try_clone(&shared.counts)?,
         state: Arc::try_clone(&shared.state)?,
         handed: Handed::new(),
     })
@@ -173,7 +169,6 @@ fn open_source(
         entries,
         room: Vec::with_capacity(alloc, MOST_LINE_OCTETS)?,
         lanes: no_progress(alloc, homes.len())?,
-        counts: Arc::try_clone(&shared.counts)?,
         state: Arc::try_clone(&shared.state)?,
     })
 }

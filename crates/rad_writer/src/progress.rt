@@ -1,9 +1,7 @@
 //! How far the entries of each lane are written.
 
-ghost use Rattle.std.specs.Prelude.{◌≡◌, ◌==◌, if◌then◌else◌, get_or, slice_set};
+ghost use Rattle.std.specs.Prelude.{◌≡◌, ◌==◌, ◌+◌, ◌-◌, ◌^◌, if◌then◌else◌, get_or, min, slice_set};
 ghost use Rattle.rad_writer.specs.Progress.{at_next_file, not_begun, passed_by, start_by};
-
-use crate::counts::behind;
 
 /// How far the entries of a lane are written.
 #[derive(Clone, Copy, Debug, PartialEq, Eq)]
@@ -83,4 +81,11 @@ pub(crate) fn put_at(lanes: &mut Vec<LaneProgress>, lane: usize, progress: LaneP
     if let Some(place) = lanes.get_mut(lane) {
         *place = progress;
     }
+}
+
+/// Returns the number behind this one. The greatest has none: it stands for itself.
+fn behind(number: u64) -> u64
+    ensures { result ≡ min (number + 1) (2 ^ 64 - 1) }
+{
+    number.saturating_add(1)
 }

@@ -5,7 +5,6 @@ ghost use Rattle.std.specs.Int.{from_be_bytes, w64};
 ghost use Rattle.ledger_files.specs.Batches.{HoldsLines};
 ghost use Rattle.rad_writer.specs.Progress.{not_begun, passed_by};
 
-use crate::counts::RunCounts;
 use crate::entry_buffer::EntryBuffer;
 use crate::lines::{FileStart, begin_line, end_line};
 use crate::progress::{LaneProgress, progress_at, put_at};
@@ -55,7 +54,6 @@ pub(crate) struct LineSource {
     /// Where the line of each entry is made.
     pub(crate) room: Vec<u8>,
     pub(crate) lanes: Vec<LaneProgress>,
-    pub(crate) counts: Arc<RunCounts>,
     pub(crate) state: Arc<LedgerState>,
 }
 
@@ -446,7 +444,7 @@ impl<R: Clock + Threads + Sync, D: LedgerDisk + Drop> Session<'_, R, D> {
             &self.source.names,
             now,
             self.files.sum(),
-            &self.source.counts,
+            &self.source.state,
             Vec::new(self.alloc),
         );
         match line {

@@ -154,7 +154,7 @@ fn happen(rt: &impl Clock, ledger: &LedgerState, log: &MemoryLog, step: Step) {
         }),
         Step::Tell => ledger.tell(log),
         Step::Leave => {
-            let _ = ledger.count_left(rt);
+            let _ = ledger.count_left(rt, 1);
         }
         Step::WriteLeft(count) => ledger.count_left_written(count),
         Step::TellLeft => ledger.tell_left(log),
@@ -194,13 +194,28 @@ fn is_counted(ledger: &LedgerState) -> bool {
         && synced == 0
 }
 
+/// Returns whether each lane has what was handed over of it and, once it is told how many requests it accepted, how many of
+/// them are left.
+fn are_lanes_counted(ledger: &LedgerState) -> bool {
+    let is_open = ledger.ended_lane(1).is_none();
+    ledger.end_lane(1, 8);
+    ledger.end_lane(2, 1);
+    is_open
+        && ledger.handed(0) == 1
+        && ledger.handed(1) == 4_294_967_306
+        && ledger.handed(2) == 0
+        && ledger.ended_lane(0).is_none()
+        && matches!(ledger.ended_lane(1), Some((8, 3)))
+        && ledger.ended_lane(2).is_none()
+}
+
 /// Lets all steps happen to a ledger of two lanes, and returns whether exactly these lines are logged.
 fn tells(rt: &impl Clock, alloc: Global, log: &MemoryLog, expected: &str) -> Result<bool, Fail> {
     let ledger = LedgerState::new(alloc, 2, 2)?;
     for next in STEPS {
         happen(rt, &ledger, log, *next);
     }
-    Ok(is_counted(&ledger) && has_logged(log, expected))
+    Ok(is_counted(&ledger) && are_lanes_counted(&ledger) && has_logged(log, expected))
 }
 
 #[test]

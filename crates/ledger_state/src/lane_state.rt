@@ -1,4 +1,4 @@
-//! Which serials of a lane are handed over to the ledger, which are written, and which are lost.
+//! What is told of a lane: which entries are handed over to the ledger, written and lost, and which requests are left.
 
 use std::alloc::{AllocError, Global};
 use std::sync::atomic::{AtomicU64, Ordering};
@@ -14,9 +14,9 @@ pub(crate) struct LostSerials {
     pub(crate) to: u64,
 }
 
-/// What the front and the thread that writes the ledger tell of a lane's entries.
+/// What the front and the thread that writes the ledger tell of a lane.
 #[derive(Drop)]
-pub(crate) struct LaneSerials {
+pub(crate) struct LaneState {
     /// The serial behind the last response that was handed over.
     handed: AtomicU64,
     /// The serial behind the last entry that was written.
@@ -27,23 +27,29 @@ pub(crate) struct LaneSerials {
     from: AtomicU64,
     /// The serial of the last one.
     to: AtomicU64,
+    /// How many requests were told as left.
+    left: AtomicU64,
+    /// One more than how many requests the lane accepted, once all that is left of it was told; 0 before.
+    accepted: AtomicU64,
 }
 
-impl LaneSerials {
+impl LaneState {
     /// Makes it for each of so many lanes, none of whose entries is lost.
     ///
     /// # Errors
     ///
     /// `AllocError` if memory is refused.
-    pub(crate) fn of_lanes(alloc: Global, lanes: usize) -> Result<Vec<LaneSerials>, AllocError> {
+    pub(crate) fn of_lanes(alloc: Global, lanes: usize) -> Result<Vec<LaneState>, AllocError> {
         let mut all = Vec::with_capacity(alloc, lanes)?;
         for _ in 0..lanes {
-            all.push(LaneSerials {
+            all.push(LaneState {
                 handed: AtomicU64::new(0),
                 written: AtomicU64::new(0),
                 count: AtomicU64::new(0),
                 from: AtomicU64::new(0),
                 to: AtomicU64::new(0),
+                left: AtomicU64::new(0),
+                accepted: AtomicU64::new(0),
             })?;
         }
         Ok(all)
@@ -55,6 +61,11 @@ impl LaneSerials {
             .store(serial.saturating_add(1), Ordering::SeqCst);
     }
 
+    /// Returns how many responses were handed over.
+    pub(crate) fn handed(&self) -> u64 {
+        self.handed.load(Ordering::SeqCst)
+    }
+
     /// Records that the entry of this serial was written.
     pub(crate) fn write(&self, serial: u64) {
         self.written
@@ -64,7 +75,7 @@ impl LaneSerials {
     /// Returns the first and the last serial behind the last entry that was written, if there are any.
     pub(crate) fn missing(&self) -> Option<(u64, u64)> {
         let from = self.written.load(Ordering::SeqCst);
-        let behind = self.handed.load(Ordering::SeqCst);
+        let behind = self.handed();
         if from < behind {
             Some((from, behind - 1))
         } else {
@@ -90,6 +101,25 @@ impl LaneSerials {
                 from: self.from.load(Ordering::SeqCst),
                 to: self.to.load(Ordering::SeqCst),
             }),
+        }
+    }
+
+    /// Counts a request that is left.
+    pub(crate) fn leave(&self) {
+        self.left.fetch_add(1, Ordering::SeqCst);
+    }
+
+    /// Records how many requests the lane accepted. All that is left of it was counted before.
+    pub(crate) fn end(&self, accepted: u64) {
+        self.accepted
+            .store(accepted.saturating_add(1), Ordering::SeqCst);
+    }
+
+    /// Returns how many requests were accepted, and how many of them are left, once all that is left was told.
+    pub(crate) fn ended(&self) -> Option<(u64, u64)> {
+        match self.accepted.load(Ordering::SeqCst) {
+            0 => None,
+            told => Some((told - 1, self.left.load(Ordering::SeqCst))),
         }
     }
 }
