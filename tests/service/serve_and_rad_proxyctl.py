@@ -72,6 +72,24 @@ def drains_where_its_terminal_is_closed(service):
     hope("status", process.wait(PATIENCE), 0)
 
 
+def goes_on_at_a_hangup_under_systemd(service):
+    """Where systemd started it, three HUPs to the group are one line of the log, and it serves on; TERM then ends it well."""
+    with socket.socket(socket.AF_UNIX, socket.SOCK_DGRAM) as heard:
+        heard.bind(str(service.room / "notify"))
+        process = service.start(env=service.environment | {"NOTIFY_SOCKET": str(service.room / "notify")})
+        for _ in range(3):
+            os.killpg(process.pid, signal.SIGHUP)
+            time.sleep(0.2)
+        service.send(request_of_nas())
+        octets, proxy = service.home.recvfrom(4096)
+        service.home.sendto(answered(octets), proxy)
+        hope("code", service.nas.recv(4096)[0], 5)
+        told = [line for line in service.log.read_text().splitlines() if "event=hangup" in line]
+        hope("lines", told, ['level=warn event=hangup hint="the configuration is read at a start alone: rad_proxyctl restart"'])
+        process.terminate()
+        hope("status", process.wait(PATIENCE), 0)
+
+
 def ended_by_term(service, name, port, await_moment, **variables):
     """How many seconds a `serve` of its own folder and port needs to end, that gets SIGTERM once `await_moment` of the folder returns."""
     file, folder = service.room / f"{name}.toml", service.room / name
@@ -1157,7 +1175,7 @@ def root_serves_nobody_elses_folder(service):
 
 
 TESTS = [
-    drains_where_its_group_gets_the_signal, drains_where_its_terminal_is_closed, a_term_at_any_moment_ends_it,
+    drains_where_its_group_gets_the_signal, drains_where_its_terminal_is_closed, goes_on_at_a_hangup_under_systemd, a_term_at_any_moment_ends_it,
     a_term_while_it_opens_its_fifos_ends_it, a_limit_on_the_size_of_files_ends_nothing, a_drain_that_failed_is_not_obeyed_later,
     a_second_leaves_the_first_alone,
     the_lock_outlives_a_serve_that_was_killed, refuses_a_folder_that_others_write_in, whatever_the_umask,
