@@ -7,7 +7,9 @@ radsecproxy and FreeRADIUS are installed, they serve the same files, and each cl
 shipped files are those of the packages `radsecproxy`, `freeradius` and `freeradius-config`, which `apt-get download` gets; where it
 cannot, these cases are left out. Names choose cases. What fails or is left out is told, and the last line is `N passed, M failed`.
 """
+import collections
 import contextlib
+import ctypes
 import functools
 import io
 import os
@@ -23,7 +25,7 @@ from multiprocessing.pool import ThreadPool
 from tests.lib import LeftOut, environment, free_ports, hope, try_in_folders
 from tests.lib.tools import running, table, talking, texts
 from tests.lib.tools.running import want
-from tools.converting import freeradius, radsecproxy
+from tools.converting import freeradius, patterns, radsecproxy
 from tools.converting.reading import Fault, Library
 from tools.converting.site import Site
 from tools.version import VERSION
@@ -171,6 +173,7 @@ def calls():
         yield f"-o {target}", prepared(call(2, part, "radsecproxy", "ROOM/radsecproxy.conf", "-o", target), site_in)
     yield "-o of a file", prepared(a_file_is_written, site_in)
     yield "an address that is looked up", addresses_are_looked_up
+    yield "a delimiter", a_delimiter_is_told
 
 
 def huge(room):
@@ -210,6 +213,18 @@ def addresses_are_looked_up(program, room):
     status, out, told = convert("radsecproxy", path, "--resolve")
     hope("status", (status, short(checked(program, out, room))["client"]), (3, [("127.0.0.1", "abc")]))
     hope_told(told, [(13, "for which no IPv4 address is found")], file)
+
+
+def a_delimiter_is_told(program, room):
+    """A sign other than `@`, in the file of the module that cuts a User-Name."""
+    path, _ = written("freeradius", texts.F_ALL, room)
+    file = path / "mods-enabled" / "realm"
+    file.parent.mkdir()
+    for sign, told in (("@", 0), ("%", 1)):
+        file.write_text(f'realm suffix {{\n\tformat = suffix\n\tdelimiter = "{sign}"\n}}\nrealm bangpath {{\n\tdelimiter = "!"\n}}\n')
+        status, out, lines = convert("freeradius", path)
+        hope("status", (status, short(checked(program, out, room))), (3 if told else 0, texts.WHOLE))
+        hope_told(lines, [(3, "delimiter %")] * told, file)
 
 
 def limits():
@@ -273,6 +288,31 @@ def sites():
         yield f"the site of {kind} is that of the table", site_case(kind, name)
         yield f"the program serves what was the site of {kind}", served(kind, name)
         yield f"{kind} serves the same site", served(kind, name, words)
+
+
+# Patterns.
+
+EXTENDED, WITHOUT_CASE, WITHOUT_PLACES = 1, 2, 8
+PIECES = [b"@", b"@", b".", b"a", b"B", b"example", b"\\.", b"$", b"$", b"^", b"(", b")", b"|", b"*", b"+", b"?", b"[a-b]", b"[^@]", b"[^@]+", b".*",
+          b".+", b"org", b"{2}", b"bob", b"(a|b)", b"[.@]"]
+REALMS, NAMES = [b"example.org", b"A.example", b"b", b"aa", b"bob.b"], [b"a", b"b", b"bob", b"x.y", b"example.org", b"AB", b"bb", b"b.", b"1"]
+
+
+def patterns_are_those_of_the_system(program, room):
+    """Random patterns, as the system's own regcomp(3) reads them, which radsecproxy calls: what is said of all or of none is so of each name."""
+    libc, chance, said = ctypes.CDLL(None), random.Random(1), collections.Counter()
+    for _ in range(20_000):
+        pattern, realm = b"".join(chance.choices(PIECES, k=chance.randint(1, 7))), chance.choice(REALMS)
+        room_of_it = ctypes.create_string_buffer(256)
+        if libc.regcomp(room_of_it, pattern, EXTENDED | WITHOUT_CASE | WITHOUT_PLACES):
+            continue
+        found = [libc.regexec(room_of_it, name + b"@" + realm, 0, None, 0) == 0 for name in NAMES]
+        libc.regfree(room_of_it)
+        told = patterns.taken(b"/" + pattern + b"/", realm)
+        said[told] += 1
+        if told == patterns.ALL and not all(found) or told == patterns.NONE and any(found):
+            raise AssertionError(f"{pattern!r} of {realm!r}: {told}, and {found}")
+    hope("patterns of each kind", all(said[kind] > 500 for kind in (patterns.ALL, patterns.NONE, patterns.SOME)) or said, True)
 
 
 # What the packages ship.
@@ -467,6 +507,7 @@ def cases():
         for text, line, part in getattr(texts, f"{kind}_faults")():
             yield f"{kind}: a fault in {text[:30]!r}", fault(kind, text, line, part)
     yield from limits()
+    yield "patterns are those of the system", patterns_are_those_of_the_system
     yield from sites()
     yield from packages()
     yield from damages()

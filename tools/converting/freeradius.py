@@ -75,19 +75,21 @@ class Converter:
     # Where requests are received.
 
     def _listen(self):
-        kept = None
-        for server in self.servers:
-            for part in server.sections(b"listen"):
-                if self._value(part, b"type") not in RECEIVING:
-                    continue
+        found = []
+        for part in (part for server in self.servers for part in server.sections(b"listen")):
+            if self._value(part, b"type") == b"detail":
+                self.site.tell(part.place, "listen: type detail: rad_proxy reads no files of records")
+            elif self._value(part, b"type") in RECEIVING:
                 target = self._listened(part)
-                if target and kept:
-                    self.site.tell(part.place, f"listen: rad_proxy receives at one address and port, which is that of {kept}")
-                elif target:
-                    kept = part.place
-                    self.site.listens(*target, [f"listen, {part.place}"])
-        if not kept:
+                found += [(target, part.place)] if target else []
+        if not found:
             self.site.listens("0.0.0.0", ACCOUNTING, ["the port of accounting, since no listen section for it is carried over"])
+            return
+        target, kept = min(found, key=lambda one: one[0][1] != ACCOUNTING)
+        self.site.listens(*target, [f"listen, {kept}"])
+        for _, place in found:
+            if place != kept:
+                self.site.tell(place, f"listen: rad_proxy receives at one address and port, which is that of {kept}")
 
     def _listened(self, part):
         """The address and port of a listen section, or None."""
@@ -353,6 +355,18 @@ def _paths(path):
     return found
 
 
+def _tell_delimiter(library, path, made):
+    """Tells of a sign other than `@` at which FreeRADIUS cuts a User-Name, in the file of its module."""
+    if not os.path.isfile(path):
+        return
+    reader = sections.Reader(library)
+    reader.read(path)
+    for part in reader.root.sections(b"realm"):
+        pair = part.pair(b"delimiter")
+        if part.name == b"suffix" and pair and pair.value != b"@":
+            made.tell(pair.place, f"{site.named('realm', part.name)}: delimiter {shown(pair.value or b'')}: rad_proxy has `@`")
+
+
 def convert(library, path, made):
     """Carries the configuration of a folder, or of a file, over to a site."""
     paths = _paths(path)
@@ -361,4 +375,5 @@ def convert(library, path, made):
     for more in paths[1:]:
         reader.read_into(more, reader.root)
     Converter(reader.root, made).convert()
+    _tell_delimiter(library, os.path.join(os.path.dirname(paths[0]), b"mods-enabled", b"realm"), made)
     return f"From FreeRADIUS's {shown(path)}, by rad_convert."

@@ -1,10 +1,11 @@
 """The configuration of radsecproxy 1.9: how it is written, and what it means to rad_proxy."""
 import dataclasses
 import glob
+import ipaddress
 import os
 import re
 
-from . import addresses, site
+from . import addresses, patterns, site
 from .reading import Fault, Place, shown
 
 # radsecproxy cuts longer lines.
@@ -193,6 +194,8 @@ class Converter:
         self.homes = {}
         self.catch_all = None
         self.ignored = {}
+        self.networks = []
+        self.patterns = []
         self.rewrites = {block.name.lower() for block in reader.blocks if block.kind == b"rewrite"}
 
     def convert(self):
@@ -270,13 +273,22 @@ class Converter:
             try:
                 found += [(address, place) for address in self.site.addresses_of(shown(unescaped(host)), short=True)]
             except addresses.Uncarried as why:
+                self.networks += [(network, block) for network in network_of(shown(unescaped(host)))]
                 self.site.tell(place, f"{what}: {why}" + (f" ({shown(host)})" if host != block.name else ""))
         if not found:
             return
         self._tell_options(f"{what}: ", block.options)
         self._tell_default_rewrite(block, what, (b"defaultclient", b"default"))
         for address, place in found:
-            self.site.add_client(block.place, what, address, unescaped(block.value(b"secret", b""), nul=True), self._waits(block))
+            first = self._first_with(address) or block
+            said = [] if first is block else [f"with the secret of {site.named('client', first.name)}, {first.place}, which radsecproxy finds first"]
+            secret = unescaped(first.value(b"secret", b""), nul=True)
+            self.site.add_client(block.place, what, address, secret, [*said, *self._waits(block)])
+
+    def _first_with(self, address):
+        """The first client so far that is a block of addresses with this one."""
+        number = ipaddress.IPv4Address(address)
+        return next((block for network, block in self.networks if number in network), None)
 
     @staticmethod
     def _waits(block):
@@ -336,18 +348,39 @@ class Converter:
             if block.value(b"accountingresponse", b"off").lower() == b"on":
                 self.site.tell(block.place, f"{what}: AccountingResponse: rad_proxy answers nothing by itself")
             elif name is None and block.name != b"*":
-                self.site.tell(block.place, f"{what}: a pattern; requests that it keeps away are forwarded if a realm has them")
+                self.patterns.append(block)
+                self.site.tell(block.place, f"{what}: a pattern; of what it keeps away rad_proxy knows whole realms alone")
             return
         if name is None and block.name != b"*":
+            self.patterns.append(block)
             self.site.tell(block.place, f"{what}: a pattern; rad_proxy has realms by their whole name alone")
             return
+        first, said = self._first_pattern(name, what, block)
+        if said:
+            self.site.tell(block.place, said)
+            return
+        if first:
+            servers = first.all(b"accountingserver")
         for option in servers[1:]:
             self.site.tell(option.place, f"{what}: rad_proxy has one home server for a realm ({shown(option.value)} is another one)")
         home = self._home_of(servers[0], what)
         if block.name == b"*":
             self._catch_all(block, home)
         elif home:
-            self.site.add_realm(block.place, what, name, home)
+            said = [f"at the home server of {site.named('realm', first.name)}, {first.place}, which radsecproxy finds first"] if first else []
+            self.site.add_realm(block.place, what, name, home, said)
+
+    def _first_pattern(self, name, what, block):
+        """The first pattern so far that takes the requests of a realm, if any does; and what is told where the realm can't be carried over."""
+        for pattern in self.patterns if name is not None else []:
+            found = patterns.taken(pattern.name, name)
+            if found == patterns.SOME:
+                return None, f"{what}: realm {shown(pattern.name)} of {pattern.place} may take requests of it first, so it is not carried over"
+            if found == patterns.ALL and not pattern.all(b"accountingserver"):
+                return None, f"{what}: radsecproxy never comes to it, since {pattern.place} has this realm"
+            if found == patterns.ALL:
+                return pattern, None
+        return None, None
 
     def _home_of(self, option, what):
         block = self.servers.get(self._key(unescaped(option.value)))
@@ -380,6 +413,16 @@ class Converter:
         if re.fullmatch(rb"@(?:[A-Za-z0-9_-]|\\[.-])+\$", pattern):
             return pattern[1:-1].replace(b"\\", b"")
         return None
+
+
+def network_of(text):
+    """The IPv4 addresses of a client that is a block of them, as a list of one network, or of none."""
+    if text in ("*", "0.0.0.0"):
+        text = "0.0.0.0/0"
+    try:
+        return [ipaddress.IPv4Network(text, strict=False)]
+    except ValueError:
+        return []
 
 
 def convert(library, path, made):

@@ -68,6 +68,18 @@ def radsecproxy():
     yield "the catch-all of none", R + R_REALM + "realm * {\n replymessage x\n}\n", [], WHOLE
     yield "patterns", R + R_REALM + "realm /@.*\\.example$ {\n accountingServer h\n}\nrealm /^a/ {\n}\n", (
         [(13, "a pattern"), (16, "a pattern")]), WHOLE
+    yield "a realm behind a pattern that takes it, one that it leaves, and one of which it takes some", (
+        R + R[R.index("server"):].replace("server h", "server i").replace("2.9", "2.8")
+        + block("realm /@(.+\\.)?nordnetz\\.example$/", "accountingServer i") + block("realm biz.nordnetz.example", "accountingServer h")
+        + R_REALM + block("realm /^vip.*@a\\.example$/", "accountingServer i") + block("realm a.example", "accountingServer h")), (
+            [(15, "a pattern"), (24, "a pattern"), (27, "may take requests of it first")]), (
+        WHOLE | {"home": [("i", "192.0.2.8:1813", "def")] + HOME, "realm": [("biz.nordnetz.example", "i")] + REALM})
+    yield "a realm that a pattern keeps away", R + R_REALM + "realm /\\.example$/ {\n}\n" + block("realm b.example", "accountingServer h"), (
+        [(13, "a pattern"), (15, "never comes to it")]), WHOLE
+    yield "clients behind a block that has them, and one before it", (
+        R + R_REALM + block("client 10.0.0.0/24", "type udp", "secret first") + block("client 10.0.0.7", "type udp", "secret own")
+        + block("client 10.0.1.7", "type udp", "secret own")), (
+            [(13, "a block of addresses")]), clients(("10.0.0.7", "first"), ("10.0.1.7", "own"))
     yield "a pattern of one whole name", R + "realm /@example\\.org$/ {\n accountingServer h\n}\n", [], WHOLE
     yield "a pattern with a dot", R + R_REALM + "realm /@example.net$/ {\n accountingServer h\n}\n", [(13, "a pattern")], WHOLE
     yield "names that radsecproxy takes as patterns", (
@@ -208,7 +220,30 @@ def freeradius():
   secret = x
  }
 }
-""", [(17, "does not run suffix"), (28, "IPv6"), (30, "one address and port")], clients(("10.0.0.1", "x")) | {"listen": "192.0.2.3:1646"}
+""", [(17, "does not run suffix"), (21, "one address and port"), (28, "IPv6")], clients(("10.0.0.1", "x")) | {"listen": "0.0.0.0:1813"}
+    yield "the listener at the port of accounting, and files of records", F_ALL + """server a {
+ listen {
+  type = acct
+  port = 11813
+ }
+ preacct {
+  suffix
+ }
+}
+server b {
+ listen {
+  type = acct
+  port = 1813
+ }
+ listen {
+  type = detail
+  filename = x
+ }
+ preacct {
+  suffix
+ }
+}
+""", [(18, "one address and port"), (31, "type detail")], WHOLE | {"listen": "0.0.0.0:1813"}
     yield "policies", F_ALL + """server s {
  listen {
   type = acct

@@ -1,0 +1,82 @@
+"""Which requests of a realm a pattern of radsecproxy takes.
+
+A pattern is an extended regular expression of POSIX that radsecproxy looks for in the whole User-Name, without regard to case. Python's
+`re` finds the same where a pattern has only the signs of TOKEN, no two bounds in a row and no bound at a beginning. A User-Name is taken
+to have one `@` and something before it.
+"""
+import re
+
+ALL, NONE, SOME = "all", "none", "some"
+TOKEN = re.compile(rb"\\[][.()*+?{}|^$@/\\-]|\[\^?[A-Za-z0-9._@%+]+(?:-[A-Za-z0-9])*[A-Za-z0-9._@%+]*-?\]|\{\d{1,3}(?:,\d{0,3})?\}"
+                   rb"|[A-Za-z0-9_@:/%&=~,;!<>\"' -]|[.^$()|*+?]")
+BOUNDS = (b"*", b"+", b"?", b"{")
+BEGINNINGS = (b"(", b"|", b"^")
+
+
+def pattern_of(name):
+    """The pattern that radsecproxy makes of a realm's name."""
+    if name.startswith(b"/"):
+        return name[1:-1] if len(name) > 1 and name.endswith(b"/") else name[1:]
+    return b".*" if name == b"*" else b"@" + name.replace(b".", b"\\.") + b"$"
+
+
+def taken(name, realm):
+    """Whether the pattern of a name takes all requests of a realm, none, or some; SOME also where it is not known."""
+    tokens = tokens_of(pattern_of(name))
+    if tokens is None:
+        return SOME
+    try:
+        found = {_taken(one, b"@" + realm) for one in alternatives(tokens)}
+    except re.error:
+        return SOME
+    return ALL if ALL in found else NONE if found == {NONE} else SOME
+
+
+def tokens_of(pattern):
+    """The tokens of a pattern that means the same to Python, or None."""
+    tokens, at = [], 0
+    while at < len(pattern):
+        found = TOKEN.match(pattern, at)
+        if not found:
+            return None
+        tokens.append(found[0])
+        at = found.end()
+    for before, token in zip([b"(", *tokens], tokens):
+        if token.startswith(BOUNDS) and (before in BEGINNINGS or before.startswith(BOUNDS)):
+            return None
+    return tokens
+
+
+def alternatives(tokens):
+    """The tokens of each alternative, of those that stand in no group."""
+    made, depth = [[]], 0
+    for token in tokens:
+        depth += (token == b"(") - (token == b")")
+        if token == b"|" and depth == 0:
+            made.append([])
+        else:
+            made[-1].append(token)
+    return made
+
+
+def _taken(tokens, tail):
+    """Whether one alternative takes the User-Names that end in `tail`: `@` and the realm."""
+    tokens = without_name(tokens)
+    text = re.compile(b"".join(rb"\Z" if token == b"$" else token for token in tokens), re.IGNORECASE | re.DOTALL)
+    if tokens[:1] in ([b"@"], [b"\\@"]) and not (len(tokens) > 1 and tokens[1].startswith(BOUNDS)):
+        return ALL if text.match(tail) else NONE
+    if b"^" in tokens:
+        return SOME
+    if text.search(tail):
+        return ALL
+    crosses = any(token in (b".", b"@", b"\\@") or token.startswith(b"[") and (b"@" in token) != token.startswith(b"[^") for token in tokens)
+    return NONE if tokens[-1:] == [b"$"] and b"$" not in tokens[:-1] and not crosses else SOME
+
+
+def without_name(tokens):
+    """The tokens without what stands for any name before the `@`."""
+    rest = tokens[1:] if tokens[:1] == [b"^"] else tokens
+    if len(rest) > 1 and rest[1] in (b"*", b"+"):
+        if rest[0] == b"." or rest[0] == b"[^@]" and rest[2:3] in ([b"@"], [b"\\@"]):
+            return rest[2:]
+    return tokens
