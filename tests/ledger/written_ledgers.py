@@ -16,7 +16,8 @@ import struct
 import subprocess
 import time
 
-from tests.lib import CLASS, HERE, HOME_SECRET, NAS_SECRET, START, attribute, bound, built, environment, hope, request, try_named, until
+from tests.lib import (CLASS, HERE, HOME_SECRET, LEDGER_METRICS, NAS_SECRET, START, attribute, bound, built, environment, hope, request, text_of,
+                       try_named, until)
 from tests.lib.ledger.trials import LATE, PATIENCE, SLACK, SYNCED, WRITTEN, Steered, Trial
 
 NAME = re.compile("([0-9]{4}-[0-9]{2}-[0-9]{2})-([0-9a-f]{16})-([0-9]{6})[.]jsonl")
@@ -47,6 +48,16 @@ def writes_what_was_acknowledged(trial):
     hope("no secret", any(secret in file.read_bytes() for secret in (NAS_SECRET, HOME_SECRET)), False)
     hope("sums", trial.told_sums(), [(0, 0, "0" * 64), (0, 2000, trial.sums())])
     hope("what it tells", trial.log_lines(), [])
+
+
+def tells_its_metrics_behind_the_others(trial):
+    """The metrics of a ledger are the last ones of the text, each with its help text and its kind, in their order."""
+    trial.begin()
+    hope("acknowledged", trial.ask(10), 10)
+    until("they are synced", lambda: (trial.number("ledger_written_total"), trial.number("ledger_unsynced_seconds")) == (10, 0))
+    wanted = text_of({"ledger_written_total": 10}, HERE, metrics=LEDGER_METRICS)
+    hope("the metrics", trial.counters.read_text("utf-8").splitlines()[-len(wanted):], wanted)
+    trial.ends()
 
 
 def names_the_file_of_another_run_before(trial):
@@ -292,8 +303,8 @@ def a_name_that_is_no_text_is_told(trial):
 
 
 TESTS = [
-    writes_what_was_acknowledged, names_the_file_of_another_run_before, tells_the_sum_each_hour, writes_none_unasked,
-    ends_a_run_with_requests_left, a_program_that_cannot_serve_leaves_no_file, is_written_within_a_tenth_of_a_second,
+    writes_what_was_acknowledged, tells_its_metrics_behind_the_others, names_the_file_of_another_run_before, tells_the_sum_each_hour,
+    writes_none_unasked, ends_a_run_with_requests_left, a_program_that_cannot_serve_leaves_no_file, is_written_within_a_tenth_of_a_second,
     is_synced_each_second, is_handed_over_before_it_is_sent, drops_are_counted, a_hundred_eighty_thousand_small_entries_wait,
     a_killed_run_is_open, a_run_that_ends_by_a_fault_is_open, a_long_ledger_is_several_files, a_name_that_is_no_text_is_told,
 ]

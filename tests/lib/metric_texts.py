@@ -1,4 +1,4 @@
-"""The text of all metrics of a program that keeps no ledger, written out by the rules of docs/formats.md.
+"""The text of all metrics, written out by the rules of docs/formats.md: of a program that keeps no ledger, and what a ledger adds.
 
 `text_of` makes it of the numbers that are known. A metric whose value depends on the time has a word in its place: TIME for a moment,
 AGE for a time that has passed, SECONDS for the sum of a histogram and SOME for what it counts up to a bound.
@@ -75,6 +75,17 @@ METRICS = [
     ("socket_buffer_bytes", GAUGE, "The receive buffer that the system granted to the socket.", SOCKET, None, None),
     ("socket_drops_total", COUNTER, "Datagrams that the system dropped because the socket's receive buffer was full.", SOCKET, None, "0"),
 ]
+# Those of a ledger, which stand behind the others if there is one.
+LEDGER_METRICS = [
+    ("ledger_written_total", COUNTER, "Entries that were written to the ledger.", PROGRAM, None, "0"),
+    ("ledger_waiting", GAUGE, "Entries that wait to be written to the ledger.", PROGRAM, None, "0"),
+    ("ledger_dropped_total", COUNTER, "Entries that are missing from the ledger because too many waited.", PROGRAM, None, "0"),
+    ("ledger_lost_total", COUNTER, "Entries that were written to a file of the ledger that is gone.", PROGRAM, None, "0"),
+    ("ledger_oldest_waiting_seconds", GAUGE, "The age of the oldest entry that waits.", PROGRAM, None, "0.000"),
+    ("ledger_unsynced_seconds", GAUGE, "The age of the oldest part of the ledger that is not synced.", PROGRAM, None, "0.000"),
+    ("client_ledger_dropped_total", COUNTER, "Entries of the client that are missing from the ledger because too many waited.", CLIENT, None,
+     "0"),
+]
 
 
 def buffer():
@@ -101,11 +112,11 @@ def names_of(name, kind, labels):
     return [*buckets, (last, None), (f"{name}_sum{{{labels}}}", "SECONDS"), (f"{name}_count{{{labels}}}", None)]
 
 
-def text_of(numbers, client, homes, socket, realms):
-    """The lines of all metrics, where these numbers are known, by their names and labels: of this client, of the home servers and
-    the realms with these labels, and of the clients' socket at this address."""
+def text_of(numbers, client, homes=(), socket="", realms=(), metrics=METRICS):
+    """The lines of metrics, of all but a ledger's if no others are named, where these numbers are known, by their names and labels: of
+    this client, of the home servers and the realms with these labels, and of the clients' socket at this address."""
     lines = []
-    for name, kind, about, whose, apart, value in METRICS:
+    for name, kind, about, whose, apart, value in metrics:
         lines += [f"# HELP rad_proxy_{name} {about}", f"# TYPE rad_proxy_{name} {kind}"]
         for labels in labels_of(whose, apart, client, homes, socket, realms):
             for each, word in names_of(name, kind, labels):

@@ -6,3 +6,4 @@ pub mod Samples
 pub mod Times
 pub mod Events
 pub mod Metrics
+pub mod Rows

@@ -2,7 +2,7 @@
 //! without memory.
 
 use crate::event::Event;
-use crate::metric::{METRICS, Metric};
+use crate::metric::{Metric, metrics};
 use std::alloc::{AllocError, Global};
 use std::sync::atomic::{AtomicU64, Ordering};
 
@@ -30,8 +30,8 @@ impl Counts {
     pub fn new(alloc: Global, lanes: usize, clients: usize) -> Result<Counts, AllocError> {
         let mut firsts = Vec::new(alloc);
         let mut width = APART;
-        for metric in METRICS {
-            if let Metric::Counted(metric) = *metric {
+        for row in metrics() {
+            if let Metric::Counted(metric) = row.metric {
                 firsts.push(width)?;
                 width = width.saturating_add(metric.width());
             }

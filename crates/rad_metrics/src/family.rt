@@ -1,5 +1,6 @@
 //! Families of metrics: what precedes the samples of one name.
 
+use crate::metric::Metric;
 use std::fmt;
 
 /// The kind of a metric.
@@ -13,32 +14,16 @@ pub enum Kind {
     Histogram,
 }
 
-/// A family: the metrics of one name. It is printed as the two lines that precede its samples.
+/// The family of a metric. It is printed as the two lines that precede its samples.
 #[derive(Clone, Copy)]
 pub struct Family {
+    pub metric: Metric,
+    pub kind: Kind,
     /// The name after the prefix `rad_proxy_`.
     pub name: &'static str,
-    pub kind: Kind,
     /// The help text, as Prometheus shows it.
     pub help: &'static str,
 }
-
-#[derive(Clone, Copy)]
-struct HelpLine(Family);
-
-#[derive(Clone, Copy)]
-struct TypeLine(Family);
-
-/// Makes the family of a metric by a table, which has the kind, the name and the help text of each.
-macro_rules! families {
-    ($metric:expr; $($case:pat => $kind:ident($name:literal, $help:literal),)+) => {
-        match $metric {
-            $($case => Family { name: $name, kind: Kind::$kind, help: $help },)+
-        }
-    };
-}
-
-pub(crate) use families;
 
 impl fmt::Display for Kind {
     ghost use Rattle.std.specs.Prelude.{Some};
@@ -57,39 +42,16 @@ impl fmt::Display for Kind {
 
 impl fmt::Display for Family {
     ghost use Rattle.std.specs.Prelude.{Some};
-    ghost use Rattle.rad_metrics.specs.Families.{described_by, head_text};
+    ghost use Rattle.rad_metrics.specs.Families.{head_text};
 
-    ghost output = { λ family. Some (head_text (described_by family)) };
+    ghost output = { λ family. Some (head_text family) };
 
+    #[tactic(auto, unfolding(crate::specs::Families::head_text))]
     fn fmt<W: fmt::Write>(&self, f: &mut fmt::Formatter<W>) -> fmt::Result {
-        let help = HelpLine(*self);
-        let kind = TypeLine(*self);
-        write!(f, "{help}{kind}")
-    }
-}
-
-impl fmt::Display for HelpLine {
-    ghost use Rattle.std.specs.Prelude.{Some};
-    ghost use Rattle.rad_metrics.specs.Families.{help_line};
-
-    ghost output = { λ line. Some (help_line line.0.name.now line.0.help.now) };
-
-    #[tactic(auto, unfolding(crate::specs::Families::help_line))]
-    fn fmt<W: fmt::Write>(&self, f: &mut fmt::Formatter<W>) -> fmt::Result {
-        let Family { name, help, .. } = self.0;
-        write!(f, "# HELP rad_proxy_{name} {help}\n")
-    }
-}
-
-impl fmt::Display for TypeLine {
-    ghost use Rattle.std.specs.Prelude.{Some};
-    ghost use Rattle.rad_metrics.specs.Families.{type_line};
-
-    ghost output = { λ line. Some (type_line line.0.name.now line.0.kind) };
-
-    #[tactic(auto, unfolding(crate::specs::Families::type_line))]
-    fn fmt<W: fmt::Write>(&self, f: &mut fmt::Formatter<W>) -> fmt::Result {
-        let Family { name, kind, .. } = self.0;
-        write!(f, "# TYPE rad_proxy_{name} {kind}\n")
+        let (name, help, kind) = (self.name, self.help, self.kind);
+        write!(
+            f,
+            "# HELP rad_proxy_{name} {help}\n# TYPE rad_proxy_{name} {kind}\n"
+        )
     }
 }

@@ -1,10 +1,8 @@
 //! The metrics of a home server and of the limits of its lane, and what they are read of.
 
 ghost use Rattle.std.specs.Prelude.{◌≡◌, ◌-◌};
-ghost use Rattle.rad_metrics.specs.Families.{described_by};
-ghost use Rattle.rad_metrics.specs.Metrics.{home_family, home_value, age_at, resent};
+ghost use Rattle.rad_metrics.specs.Metrics.{home_value, age_at, resent};
 
-use crate::family::{Family, Kind, families};
 use crate::value::Value;
 use rad_desk::Standing;
 use rad_realms::LimitNumbers;
@@ -41,23 +39,16 @@ pub enum HomeMetric {
     WindowLimit,
     RingLimit,
     Span,
-    /// Whether it is marked up.
     Up,
-    /// Since when it is marked up or down.
     Since,
-    /// How long it was marked down since the start.
     Down,
-    /// When its metrics were reported.
     Told,
-    /// Whether its lane is drained.
     Draining,
     Accepted,
     Answered,
     Queued,
     Outstanding,
-    /// How many requests the book holds.
     Held,
-    /// How many sendings were not the first of their request.
     Resent,
     OldestQueued,
     OldestOutstanding,
@@ -66,35 +57,6 @@ pub enum HomeMetric {
 }
 
 impl HomeMetric {
-    /// Returns the name, the kind and the help text of the family, which precede its samples.
-    pub fn family(self) -> Family
-        ensures { described_by result ≡ home_family self }
-    {
-        families! {
-            self;
-            HomeMetric::BookLimit => Gauge("book_limit", "The most requests that the book may hold."),
-            HomeMetric::QueueLimit => Gauge("queue_limit", "The most requests that may wait to be sent."),
-            HomeMetric::WindowLimit => Gauge("window_limit", "The most requests that may be outstanding."),
-            HomeMetric::RingLimit => Gauge("ring_limit", "The most responses that the ring may hold."),
-            HomeMetric::Span => Gauge("span_seconds", "How long after its answer a retransmitted request is answered again."),
-            HomeMetric::Up => Gauge("home_up", "Whether the home server is marked up."),
-            HomeMetric::Since => Gauge("home_since_time_seconds", "Since when the home server is marked up or down, in seconds since 1970."),
-            HomeMetric::Down => Counter("home_down_seconds_total", "How long the home server was marked down since the start."),
-            HomeMetric::Told => Gauge("home_report_time_seconds", "When the lane reported these metrics, in seconds since 1970."),
-            HomeMetric::Draining => Gauge("draining", "Whether the lane accepts no new requests."),
-            HomeMetric::Accepted => Counter("accepted_total", "Requests accepted since the start."),
-            HomeMetric::Answered => Counter("answered_total", "Requests answered by the home server since the start."),
-            HomeMetric::Queued => Gauge("queued", "Requests that wait to be sent."),
-            HomeMetric::Outstanding => Gauge("outstanding", "Requests sent and not answered."),
-            HomeMetric::Held => Gauge("book", "Requests that the book holds."),
-            HomeMetric::Resent => Counter("resent_total", "Accounting-Requests sent to the home server again."),
-            HomeMetric::OldestQueued => Gauge("oldest_queued_age_seconds", "How long the first request of the queue has waited."),
-            HomeMetric::OldestOutstanding => Gauge("oldest_outstanding_age_seconds", "How long ago the first request that is not answered was sent."),
-            HomeMetric::OldestHeld => Gauge("oldest_held_age_seconds", "How long ago the first request in the book was accepted."),
-            HomeMetric::LastAnswer => Gauge("last_answer_time_seconds", "When the home server last answered a request, in seconds since 1970, and 0 before that."),
-        }
-    }
-
     /// Returns the value of the metric, by what was read of the lane.
     pub fn value(self, reading: &Reading) -> Value
         ensures { result ≡ home_value self reading.now }

@@ -1,11 +1,8 @@
 //! How long the requests of a home server take: when each was accepted and first sent, until it is answered.
 
 ghost use Rattle.std.specs.Prelude.{◌≡◌, ◌+◌, ◌*◌, ◌-◌, ◌/◌, ◌%◌, ◌^◌, ◌==◌, Some, None, if◌then◌else◌};
-ghost use Rattle.rad_metrics.specs.Families.{described_by};
-ghost use Rattle.rad_metrics.specs.Metrics.{timed_family};
 
 use crate::counts::{atomics, word_or_0};
-use crate::family::{Family, Kind, families};
 use crate::histogram::Histogram;
 use rad_realms::LimitNumbers;
 use rad_tables::Slot;
@@ -34,9 +31,7 @@ const TIMES: u64 = 1 << 40;
 /// What the histograms of the home servers are of.
 #[derive(Clone, Copy)]
 pub enum Timed {
-    /// How long the home servers take to reply.
     Replies,
-    /// How long the clients wait for their responses.
     Responses,
 }
 
@@ -143,19 +138,6 @@ impl HomeTimes {
         match timed {
             Timed::Replies => &self.replies,
             Timed::Responses => &self.responses,
-        }
-    }
-}
-
-impl Timed {
-    /// Returns the name, the kind and the help text of the family, which precede its samples.
-    pub fn family(self) -> Family
-        ensures { described_by result ≡ timed_family self }
-    {
-        families! {
-            self;
-            Timed::Replies => Histogram("reply_seconds", "From the first sending of a request to the home server's reply."),
-            Timed::Responses => Histogram("response_seconds", "From the acceptance of a request to the response to the client."),
         }
     }
 }

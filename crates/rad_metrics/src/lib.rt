@@ -3,17 +3,18 @@
 //!
 //! [`Numbers`] keeps what the workers report. The metrics of one home server are taken under one hold of its lane's
 //! lock, by the lane's worker, when it is asked for them. All labels come from the configuration, from the program and
-//! from its sockets, whoever sends. What is counted of the ledger is
-//! in `ledger_state`.
+//! from its sockets, whoever sends. What is counted of the ledger is in `ledger_state`.
 //!
 //! What is counted is an [`Event`]: the metric that counts it, [`Counted`], and a [`Reason`], whose place and name are
 //! those of the enum of reasons that it has. A new reason is added there alone.
 //!
-//! Contracts say what each family is called, what its help text is and how each line is printed, which part of its
-//! [`Reading`] each metric of a home server is, as which event a report is counted, and which text the metrics of the
-//! program and of the ledger have. No contract covers what is behind a lock or in an atomic, such as a count: tests check
-//! it. The definitions are in `specs`: `Metrics` has the name, the kind and the help text of each metric, `Families`,
-//! `Samples` and `Values` how they are printed, `Reasons` the places and names of reasons, `Events` which events are
+//! [`metrics`] returns the list of all metrics: of each, its kind, its name and its help text. Its contract says that no
+//! two names are the same, that kinds fit names, that names and help texts need no escapes, and that one metric counts each
+//! event. No contract says which name or help text a metric has: a test compares them all. Contracts say how each line is
+//! printed, which part of its [`Reading`] each metric of a home server is, as which event a report is counted, and which
+//! text a metric of the ledger has. No contract covers what is behind a lock or in an atomic, such as a count: tests check
+//! it. The definitions are in `specs`: `Rows` has what holds of the list, `Metrics` the values that are read, `Families`,
+//! `Samples` and `Values` how metrics are printed, `Reasons` the places and names of reasons, `Events` which events are
 //! counted, and `Buckets` the bounds of a histogram.
 #![tactic(auto)]
 
@@ -45,11 +46,12 @@ pub use draft::Draft;
 pub use event::{Classified, Event, worker_row};
 pub use family::{Family, Kind};
 pub use home_metric::{HomeMetric, Reading};
-pub use ledger_metrics::{LedgerMetric, ledger_client_family};
+pub use ledger_metrics::LedgerMetric;
+pub use metric::{Metric, metrics};
 pub use numbers::{Numbers, time_since_1970};
 pub use own_process::ProcessReading;
 pub use program_metrics::{ProgramMetric, ProgramReading, VERSION};
-pub use realm_numbers::{RealmNumbers, realm_family};
+pub use realm_numbers::RealmNumbers;
 pub use reason::Reason;
 pub use socket_numbers::{SocketMetric, SocketReading, dropped_by};
 pub use system_files::{SystemFiles, count_own_descriptors, read_system_file};

@@ -1,11 +1,6 @@
 //! How many requests came for each realm.
 
-ghost use Rattle.std.specs.Prelude.{◌≡◌};
-ghost use Rattle.rad_metrics.specs.Families.{described_by};
-ghost use Rattle.rad_metrics.specs.Metrics.{realm_family};
-
 use crate::counts::{atomics, word_or_0};
-use crate::family::{Family, Kind};
 use rad_realms::{Config, Realm};
 use std::alloc::{AllocError, Global};
 use std::sync::atomic::{AtomicU64, Ordering};
@@ -65,15 +60,4 @@ pub(crate) fn realms_of(realms: &[Realm], lane: usize) -> usize {
         }
     }
     count
-}
-
-/// Returns the name, the kind and the help text of the family of these numbers, which precede its samples.
-pub fn realm_family() -> Family
-    ensures { described_by result ≡ realm_family }
-{
-    Family {
-        name: "realm_requests_total",
-        kind: Kind::Counter,
-        help: "Requests for the realm: new ones, repeats, and those that were refused.",
-    }
 }

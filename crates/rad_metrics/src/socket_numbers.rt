@@ -3,10 +3,8 @@
 //! the address and port that it is bound to, in hexadecimal, and the last one how many datagrams were dropped there.
 
 ghost use Rattle.std.specs.Prelude.{◌≡◌, ◌≤◌};
-ghost use Rattle.rad_metrics.specs.Families.{described_by};
-ghost use Rattle.rad_metrics.specs.Metrics.{socket_family, socket_value, dropped_so_far};
+ghost use Rattle.rad_metrics.specs.Metrics.{socket_value, dropped_so_far};
 
-use crate::family::{Family, Kind, families};
 use crate::value::Value;
 use rad_desk::Worker;
 use rad_realms::Endpoint;
@@ -19,24 +17,11 @@ pub(crate) const UDP_TABLE: &str = "/proc/self/net/udp";
 /// A metric of a socket.
 #[derive(Clone, Copy)]
 pub enum SocketMetric {
-    /// The size of its receive buffer.
     Buffer,
-    /// How many datagrams were dropped because that buffer was full.
     Dropped,
 }
 
 impl SocketMetric {
-    /// Returns the name, the kind and the help text of the family, which precede its samples.
-    pub fn family(self) -> Family
-        ensures { described_by result ≡ socket_family self }
-    {
-        families! {
-            self;
-            SocketMetric::Buffer => Gauge("socket_buffer_bytes", "The receive buffer that the system granted to the socket."),
-            SocketMetric::Dropped => Counter("socket_drops_total", "Datagrams that the system dropped because the socket's receive buffer was full."),
-        }
-    }
-
     /// Returns the value of the metric for a socket.
     pub fn value(self, reading: &SocketReading) -> Value
         ensures { result ≡ socket_value self reading.now }
