@@ -108,7 +108,6 @@ impl Desk {
     }
 }
 
-/// Adds a response to a ring that has a free place, and returns its serial.
 fn give(giver: &mut Producer<Outgoing, Global, Numbered>, response: Outgoing) -> u64
     requires place { 0 < known_free giver.old }
     requires next { MayFollow (sent giver.old) response }

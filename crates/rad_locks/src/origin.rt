@@ -43,7 +43,6 @@ impl Origin {
     }
 }
 
-/// Returns a copy of an attribute's octets, if there is one.
 fn kept(octets: Option<&[u8]>) -> Option<Session>
     ensures { result ≡ option_map (take 253) (option_copied octets.entry) }
 {

@@ -71,7 +71,6 @@ impl Session {
     }
 }
 
-/// Copies octets to the front of a buffer.
 fn put(buffer: &mut [u8], octets: &[u8])
     requires { length octets.now ≤ length buffer.old }
     ensures { buffer.new ≡ octets.now ++ drop (length octets.now) buffer.old }
