@@ -18,11 +18,11 @@ returns g c = record {
     stays = c.step-action.ensures.lawful.1;
     is_of =
         subst (λ (d : Desk). IsOf (book d).setup c.args.lane c.args.secret.now) (c.deref.ensures ∙ sym c.deref_mut.ensures.value)
-            (c.is_of.ensures.0 c.if-not-is_of.false);
+        (c.is_of.ensures.0 c.if-not-is_of.false);
     steps = c.step-action.ensures.steps;
   };
   counted =
       ap (λ (k : Counts). k.accepted - k.opening)
-          (c.counts-counts.ensures.counts ∙ ap (λ (d : Desk). counts_of (book d)) c.deref-2.ensures)
+      (c.counts-counts.ensures.counts ∙ ap (λ (d : Desk). counts_of (book d)) c.deref-2.ensures)
       ∙ rest c.step-action.new.self.lane.opening (length c.step-action.new.self.lane.accepted);
 }
