@@ -251,7 +251,6 @@ fn hand_out<R, W: Wire, L: Ledger, G: Gate>(
     true
 }
 
-/// Takes a response, if there is one, hands it over to the ledger, and then sends it.
 fn take<R, W: Wire, L: Ledger, G: Gate>(
     shift: &mut Shift<'_, R, W, G>,
     inlet: &mut Inlet,

@@ -54,7 +54,6 @@ pub fn lane_worker<W: Wire, G: Gate>(
     shift.tally
 }
 
-/// Returns the address and port of a home server.
 fn endpoint_of(home: &Home) -> Endpoint
     ensures { result ≡ home.now.endpoint }
 {
@@ -64,7 +63,6 @@ fn endpoint_of(home: &Home) -> Endpoint
     }
 }
 
-/// Returns whether a datagram came from the home server's address and port.
 fn is_from(home: &Home, from: Endpoint) -> bool
     ensures { IsTrue result ↔ from ≡ home.now.endpoint }
 {
@@ -122,7 +120,6 @@ fn hear<R: Wait, W: Wire, G: Gate>(
     true
 }
 
-/// Reports that a datagram of the home server was dropped.
 fn tell_unheard<'b, R, W: Wire, G: Gate>(
     shift: &Shift<'_, R, W, G>,
     fault: DeskFault,
@@ -150,7 +147,6 @@ fn origin_of_reply<R: Wait, W: Wire, G: Gate>(
     origin_under(shift, asked, lane, Slot { port, identifier })
 }
 
-/// Returns the origin of the request that is outstanding under a pair, if the gate asks for it.
 fn origin_under<R: Wait, W: Wire, G: Gate>(
     shift: &Shift<'_, R, W, G>,
     asked: Asked,
@@ -208,7 +204,6 @@ fn tell_first<R, W: Wire, G: Gate>(shift: &Shift<'_, R, W, G>, action: &Action) 
     }
 }
 
-/// Returns the origin of the request that is sent, if the gate asks for it. A probe has none.
 fn origin_of_sent<R: Wait, W: Wire, G: Gate>(
     shift: &Shift<'_, R, W, G>,
     asked: Asked,
@@ -223,7 +218,6 @@ fn origin_of_sent<R: Wait, W: Wire, G: Gate>(
     }
 }
 
-/// Reports the lane's standing at this moment, if the gate asks for it.
 fn tell_standing<R: Wait, W: Wire, G: Gate>(
     shift: &Shift<'_, R, W, G>,
     asked: Asked,
@@ -238,7 +232,6 @@ fn tell_standing<R: Wait, W: Wire, G: Gate>(
     }
 }
 
-/// Returns the source port from which an action sends, if it sends.
 fn port_of(action: &Action) -> Option<u16>
     ensures { MatchOption result (slot_of action.now ≡ None) (λ port. IsPortOf action.now port) }
 {
@@ -276,8 +269,7 @@ fn follow<R: Wait, W: Wire, G: Gate>(
     true
 }
 
-/// Sends a datagram of a request of this origin to the home server, from the socket of a source port. If the home server
-/// does not have that port, since the port is another lane's, for example, nothing is sent.
+/// If the home server does not have that port, since the port is another lane's, for example, nothing is sent.
 fn send_home<R, W: Wire, G: Gate>(
     shift: &mut Shift<'_, R, W, G>,
     home: &Home,
@@ -294,7 +286,6 @@ fn send_home<R, W: Wire, G: Gate>(
     }
 }
 
-/// Returns whether a book holds at least half of the requests that it may hold.
 fn is_half_full(held: u64, book: u32) -> bool
     ensures { IsTrue result ↔ (book ≤ 2 * held) }
 {

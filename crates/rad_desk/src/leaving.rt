@@ -64,7 +64,6 @@ pub fn tell_left<L: Ledger>(report: Report, now: Moment, ledger: &mut L)
     }
 }
 
-/// Tells what is left of a lane, and takes its queued records from the front of the queue.
 fn tell_lane<L: Ledger>(
     end: &LaneEnd,
     queued: &mut RecordQueue,
@@ -81,7 +80,6 @@ fn tell_lane<L: Ledger>(
     ledger.end_lane(end.lane, &end.counts);
 }
 
-/// Tells the answered requests of a lane whose responses nobody took, if these are known.
 fn tell_rest<L: Ledger>(
     end: &LaneEnd,
     now: Moment,
@@ -95,7 +93,6 @@ fn tell_rest<L: Ledger>(
     }
 }
 
-/// Tells the requests of a lane that these responses answer.
 fn tell_responses<L: Ledger>(
     end: &LaneEnd,
     responses: &[Outgoing],
@@ -113,7 +110,6 @@ fn tell_responses<L: Ledger>(
     }
 }
 
-/// Tells the outstanding requests of a lane.
 fn tell_outstanding<L: Ledger>(lane: u16, outstanding: &Slots<Entry>, now: Moment, ledger: &mut L)
     ensures { L.left ledger.new ≡ left_with (L.left ledger.old) (left_of_pairs lane outstanding.now) }
 {
@@ -122,7 +118,6 @@ fn tell_outstanding<L: Ledger>(lane: u16, outstanding: &Slots<Entry>, now: Momen
     }
 }
 
-/// Tells the outstanding requests of a lane that were sent from one source port.
 fn tell_port<L: Ledger>(
     lane: u16,
     port: u16,
@@ -141,7 +136,6 @@ fn tell_port<L: Ledger>(
     }
 }
 
-/// Tells the request of a lane that is outstanding under a pair, if there is one.
 #[tactic(auto, using(crate::proofs::LeftTold::left_none))]
 fn tell_found<L: Ledger>(lane: u16, found: Option<&Entry>, now: Moment, ledger: &mut L)
     ensures { L.left ledger.new ≡ left_with (L.left ledger.old) (left_in lane (option_copied found.entry)) }
@@ -152,7 +146,6 @@ fn tell_found<L: Ledger>(lane: u16, found: Option<&Entry>, now: Moment, ledger: 
     tell_entry(lane, entry, now, ledger);
 }
 
-/// Tells the request of a lane that an entry is of. A probe is of none.
 #[tactic(auto, using(crate::proofs::LeftTold::left_none))]
 fn tell_entry<L: Ledger>(lane: u16, entry: &Entry, now: Moment, ledger: &mut L)
     ensures { L.left ledger.new ≡ left_with (L.left ledger.old) (left_in lane (Some entry.now)) }
@@ -163,7 +156,6 @@ fn tell_entry<L: Ledger>(lane: u16, entry: &Entry, now: Moment, ledger: &mut L)
     ledger.leave(&of_sending(lane, sending, now));
 }
 
-/// Tells the queued requests of a lane, which are so many at the front of the queue, and takes them from it.
 fn tell_queued<L: Ledger>(
     lane: u16,
     count: usize,
@@ -182,7 +174,6 @@ fn tell_queued<L: Ledger>(
     }
 }
 
-/// Returns a queued request as it is told.
 fn of_record(lane: u16, kept: &Record, now: Moment) -> LeftRecord<'_>
     ensures told { as_left result ≡ queued_left lane kept.now.recorded }
     ensures sendings { result.sendings ≡ Some 0 }
@@ -191,7 +182,6 @@ fn of_record(lane: u16, kept: &Record, now: Moment) -> LeftRecord<'_>
     of_kept(lane, kept, LeftState::Queued, 0, now)
 }
 
-/// Returns an outstanding request as it is told.
 fn of_sending(lane: u16, sending: &Sending, now: Moment) -> LeftRecord<'_>
     ensures told { as_left result ≡ outstanding_left lane sending.now }
     ensures sendings { result.sendings ≡ Some sending.now.sendings }
@@ -201,7 +191,6 @@ fn of_sending(lane: u16, sending: &Sending, now: Moment) -> LeftRecord<'_>
     of_kept(lane, sending.request(), state, sending.sendings(), now)
 }
 
-/// Returns a request that is not answered as it is told, in this state and with so many sendings.
 fn of_kept(lane: u16, kept: &Record, state: LeftState, sendings: u32, now: Moment) -> LeftRecord<'_>
     ensures told { as_left result ≡ recorded_left lane state kept.now.recorded }
     ensures sendings { result.sendings ≡ Some sendings }
@@ -224,7 +213,6 @@ fn of_kept(lane: u16, kept: &Record, state: LeftState, sendings: u32, now: Momen
     }
 }
 
-/// Returns an answered request as it is told: of this number and age, and with these octets.
 fn of_outgoing<'a>(
     lane: u16,
     outgoing: &Outgoing,
@@ -273,7 +261,6 @@ fn age_of_number(end: &LaneEnd, number: u64, now: Moment) -> Option<u64>
     }
 }
 
-/// Returns the number of the request in the mark of a packet that was sent: its last eight octets.
 fn number_in_mark(sending: &[u8]) -> u64
     ensures { result ≡ number_sent sending.now }
 {
@@ -285,8 +272,6 @@ fn number_in_mark(sending: &[u8]) -> u64
     u64::from_be_bytes(octets)
 }
 
-/// Returns the request that a reply answers, as it came: with the Identifier and the Authenticator of its head, and the
-/// attributes that were sent to the home server, without the mark at their end.
 fn restore<'a>(reply: &Reply, room: &'a mut [u8; GREATEST_LENGTH]) -> &'a [u8]
     ensures { result.now ≡ restored reply.now.head reply.now.sending }
 {
@@ -304,7 +289,6 @@ fn restore<'a>(reply: &Reply, room: &'a mut [u8; GREATEST_LENGTH]) -> &'a [u8]
     &room[..end]
 }
 
-/// Writes a packet's Authenticator.
 fn put_authenticator(packet: &mut [u8], authenticator: [u8; 16])
     requires { 20 ≤ length packet.old }
     ensures written { packet.new ≡ take 4 packet.old ++ authenticator ++ drop (4 + length authenticator) packet.old }
@@ -313,7 +297,6 @@ fn put_authenticator(packet: &mut [u8], authenticator: [u8; 16])
     put(packet, 4, &authenticator);
 }
 
-/// Copies octets into a buffer at an offset.
 fn put(buffer: &mut [u8], place: usize, octets: &[u8])
     requires { place + length octets.now ≤ length buffer.old }
     ensures { buffer.new ≡ take place buffer.old ++ octets.now ++ drop (place + length octets.now) buffer.old }

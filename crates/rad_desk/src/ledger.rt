@@ -122,7 +122,6 @@ impl Handed {
         *self = Handed::with(self, outgoing, wire);
     }
 
-    /// Returns the list with one more response.
     fn with<W: Wire>(_before: &Handed, _outgoing: &Outgoing, _wire: &W) -> Handed
         ensures { result.responses ≡ _before.now.responses ++ handed_at (W.log _wire.now) _outgoing.now ∷ [] }
     {

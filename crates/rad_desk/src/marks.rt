@@ -28,7 +28,6 @@ pub fn count_marks(packet: &PacketRef<'_>) -> u64
     count
 }
 
-/// Returns whether an attribute is a Proxy-State of that form.
 fn is_mark(attribute: AttributeRef<'_>) -> bool
     ensures { result ≡ the_mark (attribute_at attribute.entry) }
 {

@@ -28,7 +28,6 @@ pub fn status_of(packet: &PacketRef<'_>) -> Option<u32>
     }
 }
 
-/// Returns the Value of a packet's first attribute of a Type, if it has one.
 fn first_value<'a>(packet: &PacketRef<'a>, kind: u8) -> Option<&'a [u8]>
     ensures { option_copied result ≡ the_value kind packet.now }
 {

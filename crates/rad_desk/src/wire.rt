@@ -132,7 +132,6 @@ impl Traffic {
         *self = Traffic::with(self, &Passing::Drew, octets);
     }
 
-    /// Returns the log with one more event.
     fn with(_before: &Traffic, _passing: &Passing, _octets: &[u8]) -> Traffic
         ensures { result.passed ≡ _before.now.passed ++ event _passing.now _octets.now ∷ [] }
     {

@@ -164,7 +164,6 @@ impl<Q: Fifo<Record>> Lane<Q> {
         Ok(())
     }
 
-    /// Takes a request while new ones are refused for this reason: only a repeat is taken.
     fn accept_repeat(
         &mut self,
         refusal: Refusal,
@@ -226,8 +225,6 @@ impl<Q: Fifo<Record>> Lane<Q> {
     }
 }
 
-/// Returns how a request is taken that repeats another, and writes the response into the datagram if there is one.
-/// Returns nothing for a new request.
 fn taken_as(repeat: Repeat<'_>, datagram: &mut Datagram) -> Option<Taken>
     ensures { TakesRepeat (found repeat.entry) result (record { before = datagram.old; after = datagram.new }) }
 {
@@ -267,7 +264,6 @@ fn stamp_of(request: &Checked<'_>, number: u64, moment: Moment) -> Stamp
     }
 }
 
-/// Makes the record of a request: copies the packet and allocates the buffer for the octets to be sent.
 fn record_of(
     alloc: Global,
     request: &Checked<'_>,
@@ -285,8 +281,6 @@ fn record_of(
     Ok(Record::new(stamp, text, *request.secret(), spare))
 }
 
-/// Adds a request: its stamp, a place for the index of its answer, and its record to the queue. It allocates all that
-/// it needs before it adds anything.
 fn add<Q: Fifo<Record>>(
     alloc: Global,
     request: &Checked<'_>,
@@ -311,7 +305,6 @@ fn add<Q: Fifo<Record>>(
     Ok(())
 }
 
-/// Makes room for one more item in each list and in the queue.
 fn make_room<Q: Fifo<Record>>(
     accepted: &mut SlidingList<Stamp>,
     indices: &mut SlidingList<Option<AnswerIndex>>,
@@ -329,7 +322,6 @@ fn make_room<Q: Fifo<Record>>(
     queued.reserve_one()
 }
 
-/// Returns the response of an answer.
 fn response_of(answer: &Answered) -> PacketRef<'_>
     ensures { result ≡ answer.now.reply.response }
 {

@@ -99,7 +99,6 @@ impl Answered {
         &self.kept.reply
     }
 
-    /// Makes an answer. An error means that memory was refused.
     fn new(
         alloc: Global,
         stamp: Stamp,
@@ -139,8 +138,6 @@ impl Answered {
         Ok((answer, outgoing))
     }
 
-    /// Returns the response on its way to the client, with a copy of what it rests on. An error means that memory was
-    /// refused.
     fn outgoing(&self, alloc: Global) -> Result<Outgoing, AllocError>
         ensures { IfOk result (GoesOut self.now) }
     {

@@ -167,7 +167,6 @@ impl<Q: Fifo<Record>> Lane<Q> {
         self.hear_response(alloc, now, slot, &packet)
     }
 
-    /// Hears an Accounting-Response that arrived at the source port of a pair and has the pair's Identifier.
     fn hear_response(
         &mut self,
         alloc: Global,
@@ -198,13 +197,8 @@ impl<Q: Fifo<Record>> Lane<Q> {
         }
     }
 
-    /// Keeps the answer to the request that is outstanding under a pair. It allocates before it changes anything. If
-    /// the list of answers grows, at most a few of them are moved, unless memory was refused again and again until
+    /// If the list of answers grows, at most a few of them are moved, unless memory was refused again and again until
     /// the list was full.
-    ///
-    /// # Errors
-    ///
-    /// `OutOfMemory` if memory is refused. The lane is unchanged, and the answer is dropped.
     fn keep_answer(&mut self, slot: Slot, answer: Answered, now: Moment) -> Result<(), HearFault>
         requires later { self.old.last ≤ now }
         requires answers { AnswersSending self.old now slot answer }

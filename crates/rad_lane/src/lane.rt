@@ -153,7 +153,6 @@ impl<Q: Fifo<Record>> Lane<Q> {
     }
 }
 
-/// Returns the later of two moments.
 fn later_of(last: Moment, moment: Moment) -> Moment
     ensures { result ≡ max last moment }
 {

@@ -77,7 +77,6 @@ impl<'a> Seen<'a> {
         }
     }
 
-    /// Returns the answer to the request of a number, which the book still holds.
     fn answer_of(&self, number: u64) -> Option<&'a Answered>
         requires { self.now.opening ≤ number }
         ensures { option_copied result ≡ answer_to number self.now.answered.now }
@@ -85,7 +84,6 @@ impl<'a> Seen<'a> {
         self.answered.get(self.place_of(number)?)
     }
 
-    /// Returns the place of the answer to the request of a number, if it is answered.
     fn place_of(&self, number: u64) -> Option<usize>
         requires { self.now.opening ≤ number }
         ensures { at_place self.now.answered.now result ≡ answer_to number self.now.answered.now }
@@ -96,7 +94,6 @@ impl<'a> Seen<'a> {
         }
     }
 
-    /// Returns the index of the answer to the request of a number, if it is answered.
     fn answer_index_of(&self, number: u64) -> Option<AnswerIndex>
         requires { self.now.opening ≤ number }
         ensures { result ≡ answer_index_to number self.now.answered.now }
@@ -117,8 +114,7 @@ impl<Q: Fifo<Record>> Lane<Q> {
     }
 }
 
-/// Returns the place of the answer with a serial. The number of answers that it looks at is logarithmic in how many
-/// there are.
+/// The number of answers that it looks at is logarithmic in how many there are.
 fn place_of_serial(answers: &[Answered], serial: u64) -> Option<usize>
     requires { IsStrictlyIncreasing (each (λ a. a.serial) answers.now) }
     ensures { at_place answers.now result ≡ the_answer serial answers.now }

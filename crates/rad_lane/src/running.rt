@@ -91,7 +91,6 @@ pub fn run<Q: Fifo<Record>>(
     Ok(gives)
 }
 
-/// Makes the call of one event.
 fn give<Q: Fifo<Record>>(
     alloc: Global,
     lane: &mut Lane<Q>,

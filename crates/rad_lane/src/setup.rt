@@ -101,7 +101,6 @@ impl Setup {
     }
 }
 
-/// Returns the names of the realms that lead to a lane.
 fn realms_of(alloc: Global, realms: &[Realm], lane: u16) -> Result<Series<Octets>, AllocError>
     ensures { IfOk result (λ names. names ≡ the_realms realms.now lane) }
 {
@@ -115,7 +114,6 @@ fn realms_of(alloc: Global, realms: &[Realm], lane: u16) -> Result<Series<Octets
     Ok(Series::from_vec(names))
 }
 
-/// Returns whether a lane is this other one, if there is one.
 fn is_same_lane(lane: u16, other: Option<u16>) -> bool
     ensures { result ≡ is_lane lane other }
 {
@@ -125,7 +123,7 @@ fn is_same_lane(lane: u16, other: Option<u16>) -> bool
     }
 }
 
-/// Returns whether a name is among these, ignoring the case of ASCII letters. The one of this rank is compared first.
+/// The name of this rank is compared first.
 fn has_name(names: &[Octets], rank: Option<usize>, name: &[u8]) -> bool
     ensures { result ≡ list_any (λ other. same_name other name.now) names.now }
 {
@@ -137,7 +135,6 @@ fn has_name(names: &[Octets], rank: Option<usize>, name: &[u8]) -> bool
         .any(|other| is_same_name(other.as_slice(), name))
 }
 
-/// Returns whether the name of this rank is this name, ignoring the case of ASCII letters.
 fn has_name_at(names: &[Octets], rank: Option<usize>, name: &[u8]) -> bool
     ensures { result ≡ is_at (λ other. same_name other name.now) names.now rank }
 {

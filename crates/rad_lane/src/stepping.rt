@@ -65,8 +65,6 @@ impl<Q: Fifo<Record>> Lane<Q> {
         }
     }
 
-    /// Takes the next step of a lane whose home server is marked down until a moment, with the moment of the next
-    /// probe and the pair of an outstanding one.
     fn step_while_down(
         &mut self,
         now: Moment,
@@ -92,7 +90,6 @@ impl<Q: Fifo<Record>> Lane<Q> {
         }
     }
 
-    /// Takes the next step of a lane whose home server is marked up.
     fn step_while_up(&mut self, now: Moment, datagram: &mut Datagram) -> Action
         requires is_up { self.old.watch ≡ up }
         requires later { self.old.last ≤ now }
@@ -117,7 +114,6 @@ impl<Q: Fifo<Record>> Lane<Q> {
         Action::Idle(earlier(unspent, spent))
     }
 
-    /// Returns the next due sending of those that are not spent. It looks at each outstanding sending once.
     fn next_unspent(&self, now: Moment) -> NextDue
         requires { self.now.watch ≡ up }
         ensures { FindsNextDue self.now now false result }
@@ -125,7 +121,6 @@ impl<Q: Fifo<Record>> Lane<Q> {
         self.next_due(false, now)
     }
 
-    /// Returns the next due sending of those that are spent. It looks at each outstanding sending once.
     fn next_spent(&self, now: Moment) -> NextDue
         requires { self.now.watch ≡ up }
         ensures { FindsNextDue self.now now true result }
@@ -133,7 +128,7 @@ impl<Q: Fifo<Record>> Lane<Q> {
         self.next_due(true, now)
     }
 
-    /// Returns the next due sending of those that are spent, or of those that are not.
+    /// It looks at each outstanding sending once.
     fn next_due(&self, spent: bool, now: Moment) -> NextDue
         requires { self.now.watch ≡ up }
         ensures { FindsNextDue self.now now spent result }
@@ -150,7 +145,6 @@ impl<Q: Fifo<Record>> Lane<Q> {
         }
     }
 
-    /// Retransmits the next due sending, which is under the pair `slot`.
     fn resend(&mut self, slot: Slot, now: Moment, datagram: &mut Datagram) -> Action
         requires is_up { self.old.watch ≡ up }
         requires later { self.old.last ≤ now }
@@ -167,7 +161,6 @@ impl<Q: Fifo<Record>> Lane<Q> {
         Action::Resent(number, slot)
     }
 
-    /// Sends the first request of the queue.
     fn send_first(&mut self, now: Moment, datagram: &mut Datagram) -> Action
         requires is_up { self.old.watch ≡ up }
         requires later { self.old.last ≤ now }
@@ -187,7 +180,6 @@ impl<Q: Fifo<Record>> Lane<Q> {
         Action::Sent(number, slot)
     }
 
-    /// Returns whether a request is queued and the window has room for it.
     fn may_send(&self) -> bool
         ensures may { OnTrue result (MaySend self.now) }
         ensures not { OnFalse result (NothingToSend self.now) }
@@ -211,14 +203,12 @@ pub(crate) fn free_slot(slots: &Slots<Entry>, setup: &Setup) -> Slot
     slots.allot().unwrap()
 }
 
-/// Returns a number of milliseconds as a moment; the last moment if it is beyond that.
 fn moment_at(milliseconds: u64) -> Moment
     ensures { result ≡ as_moment milliseconds }
 {
     Moment::new(milliseconds.min((1 << 62) - 1)).unwrap()
 }
 
-/// Returns the earlier of two due times as a moment, if there is any.
 fn earlier(one: Option<u64>, other: Option<u64>) -> Option<Moment>
     ensures { result ≡ option_map as_moment (the_earlier one other) }
 {

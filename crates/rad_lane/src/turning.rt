@@ -106,8 +106,6 @@ impl<Q: Fifo<Record>> Lane<Q> {
         }
     }
 
-    /// Removes the first `count` requests with their answers. It allocates all that it needs before it changes
-    /// anything.
     fn cut(&mut self, alloc: Global, count: usize, now: Moment) -> Result<Volume, AllocError>
         requires later { self.old.last ≤ now }
         requires is_cut { IsCut self.old now (take count self.old.accepted) (drop count self.old.accepted) }
@@ -136,8 +134,7 @@ impl<Q: Fifo<Record>> Lane<Q> {
     }
 }
 
-/// Returns how many of the first requests were answered at least a span ago. It looks at their answer indices and at
-/// the next one.
+/// It looks at as many answer indices as it counts, and at the next one.
 fn count_over(indices: &[Option<AnswerIndex>], span: u32, now: Moment) -> usize
     ensures within { result ≤ length indices.now }
     ensures over { All (IsOverBy span now) (take result indices.now) }
@@ -153,7 +150,6 @@ fn count_over(indices: &[Option<AnswerIndex>], span: u32, now: Moment) -> usize
     count
 }
 
-/// Returns whether there is an answer index, of an answer given at least a span ago.
 fn is_over(answer_index: &Option<AnswerIndex>, span: u32, now: Moment) -> bool
     ensures over { OnTrue result (IsOverBy span now answer_index.now) }
     ensures not { OnFalse result (¬ IsOverBy span now answer_index.now) }
@@ -164,7 +160,6 @@ fn is_over(answer_index: &Option<AnswerIndex>, span: u32, now: Moment) -> bool
     }
 }
 
-/// Returns the end of a prefix of the answers that has all `count` answers to requests below a number.
 fn end_of(answers: &[Answered], number: u64, count: usize) -> usize
     requires { length (the_answers_below number answers.now) ≡ count }
     ensures within { result ≤ length answers.now }

@@ -15,7 +15,6 @@ pub fn agrees(answer: &Answered, outgoing: &Outgoing) -> bool
     is_to_the_same(&answer.stamp(), outgoing) && is_the_same(answer.reply(), &outgoing.reply)
 }
 
-/// Returns whether a response goes to the client and port of this stamp, under its Identifier.
 fn is_to_the_same(stamp: &Stamp, outgoing: &Outgoing) -> bool
     ensures { IsTrue result ↔ (outgoing.now.client ≡ stamp.now.client) × (outgoing.now.port ≡ stamp.now.port) × (outgoing.now.reply.head.identifier ≡ stamp.now.identifier) }
 {
@@ -24,7 +23,6 @@ fn is_to_the_same(stamp: &Stamp, outgoing: &Outgoing) -> bool
         && outgoing.reply.head().identifier == stamp.identifier
 }
 
-/// Returns whether two replies have the same octets, in all three packets.
 fn is_the_same(kept: &Reply, given: &Reply) -> bool
     ensures { IsTrue result ↔ (given.now.sending ≡ kept.now.sending) × (given.now.reply ≡ kept.now.reply) × (given.now.response ≡ kept.now.response) }
 {

@@ -59,7 +59,6 @@ impl Proxy {
     }
 }
 
-/// Allocates the room for `lanes` lanes, and that of each inlet.
 fn make_room(alloc: Global, lanes: usize, inlets: &mut [Inlet]) -> Result<Room, AllocError>
     ensures untouched { AreUntouched inlets.old inlets.new }
     ensures rooms { OnOk result (All HasRoom inlets.new) }
@@ -74,7 +73,6 @@ fn make_room(alloc: Global, lanes: usize, inlets: &mut [Inlet]) -> Result<Room, 
     Ok(Room { desks, ends })
 }
 
-/// Moves the desks out of their locks, into a vector that has room for them.
 fn unlock(locks: Vec<Mutex<Desk>>, desks: Vec<Desk>) -> Vec<Desk>
     requires none { desks.items ≡ [] }
     requires room { vec_len locks ≤ vec_capacity desks }

@@ -44,7 +44,6 @@ pub(crate) fn end_all(
     }
 }
 
-/// Returns what is left of a lane, and the records that it never sent.
 fn end_of(lane: u16, desk: Desk, inlet: Option<Inlet>) -> (LaneEnd, RecordQueue)
     requires { ForSome inlet HasRoom }
     ensures end { IsEnd lane (book desk) inlet result.0 }
@@ -65,7 +64,6 @@ fn end_of(lane: u16, desk: Desk, inlet: Option<Inlet>) -> (LaneEnd, RecordQueue)
     (end, parts.queued)
 }
 
-/// Returns the rest of a lane that has these kept answers and gave `served` answers in all.
 fn rest_of(lane: u16, answered: &[Answered], served: u64, inlet: Option<Inlet>) -> Rest
     requires { ForSome inlet HasRoom }
     ensures { TellsRest lane answered.now served inlet result }
@@ -76,7 +74,6 @@ fn rest_of(lane: u16, answered: &[Answered], served: u64, inlet: Option<Inlet>) 
     rest_in(lane, answered, served, &mut inlet)
 }
 
-/// Returns the rest of a lane, which it takes from this inlet.
 fn rest_in(lane: u16, answered: &[Answered], served: u64, inlet: &mut Inlet) -> Rest
     requires { HasRoom inlet.old }
     ensures { TellsRest lane answered.now served (Some inlet.old) result }
@@ -92,8 +89,6 @@ fn rest_in(lane: u16, answered: &[Answered], served: u64, inlet: &mut Inlet) -> 
     }
 }
 
-/// Returns whether each answer agrees with the response of its serial, if that is in `rest`, whose serials continue
-/// from its first one.
 fn agree(answered: &[Answered], rest: &[Outgoing]) -> bool
     requires { (first : ℕ) × GoOnFrom first rest.now }
     ensures { IsTrue result ↔ All (AgreesAmong rest.now) answered.now }
@@ -109,8 +104,6 @@ fn agree(answered: &[Answered], rest: &[Outgoing]) -> bool
     true
 }
 
-/// Returns whether an answer agrees with the response of its serial, if that is in `rest`, whose serials continue from
-/// `first`.
 fn agrees_among(answer: &Answered, first: u64, rest: &[Outgoing]) -> bool
     requires { GoOnFrom first rest.now }
     ensures { IsTrue result ↔ AgreesAmong rest.now answer.now }

@@ -3,10 +3,10 @@
 ghost use Rattle.std.specs.Prelude.{◌≡◌, ◌<◌, take, option_map, option_copied};
 ghost use Rattle.rad_locks.specs.Desk.{book};
 ghost use Rattle.rad_locks.specs.Origin.{origin_of, outstanding_under};
-ghost use Rattle.rad_locks.specs.Found.{TellsOriginFor, TellsOriginLawfully};
+ghost use Rattle.rad_locks.specs.Found.{TellsOriginLawfully};
 
 use crate::desk::Desk;
-use crate::proxy::Proxy;
+use crate::proxy::{Proxy, own};
 use crate::spent::Session;
 use rad_lane::Record;
 use rad_realms::Endpoint;
@@ -43,7 +43,6 @@ impl Origin {
     }
 }
 
-/// Returns a copy of an attribute's octets, if there is one.
 fn kept(octets: Option<&[u8]>) -> Option<Session>
     ensures { result ≡ option_map (take 253) (option_copied octets.entry) }
 {
@@ -61,18 +60,6 @@ impl Desk {
         let sending = self.lane.sending_under(slot)?;
         Some(Origin::of(sending.request()))
     }
-
-    /// Returns the same, if the lane has this number.
-    fn origin_for(&self, number: u16, slot: Slot) -> Option<Origin>
-        ensures tells { TellsOriginFor number (book self.now) slot result }
-        ensures lawful { TellsOriginLawfully number slot result }
-    {
-        self.keep_law();
-        if !self.has_number(number) {
-            return None;
-        }
-        self.origin(slot)
-    }
 }
 
 impl Proxy {
@@ -81,6 +68,9 @@ impl Proxy {
         requires { lane < self.now }
         ensures { TellsOriginLawfully lane slot result }
     {
-        self.lock(rt, lane).origin_for(lane, slot)
+        let Ok(desk) = own(self.lock(rt, lane), lane) else {
+            return None;
+        };
+        desk.origin(slot)
     }
 }

@@ -4,10 +4,10 @@ ghost use Rattle.std.specs.Prelude.{◌≡◌, ◌<◌, ◌≤◌, ◌++◌, len
 ghost use Rattle.rad_lane.specs.Dues.{NoneSpent};
 ghost use Rattle.rad_locks.specs.Desk.{book};
 ghost use Rattle.rad_locks.specs.Spent.{TellsSpent, spent_of};
-ghost use Rattle.rad_locks.specs.Found.{TellsSpentFor, TellsSpentLawfully};
+ghost use Rattle.rad_locks.specs.Found.{TellsSpentLawfully};
 
 use crate::desk::Desk;
-use crate::proxy::Proxy;
+use crate::proxy::{Proxy, own};
 use rad_lane::Sending;
 use rad_realms::Endpoint;
 use rad_tables::Moment;
@@ -71,7 +71,6 @@ impl Session {
     }
 }
 
-/// Copies octets to the front of a buffer.
 fn put(buffer: &mut [u8], octets: &[u8])
     requires { length octets.now ≤ length buffer.old }
     ensures { buffer.new ≡ octets.now ++ drop (length octets.now) buffer.old }
@@ -109,18 +108,6 @@ impl Desk {
         let sending = self.lane.spent()?;
         Some(Spent::of(sending, moment))
     }
-
-    /// Returns the same, if the lane has this number.
-    fn spent_for(&self, number: u16, moment: Moment) -> Option<Spent>
-        ensures tells { TellsSpentFor number (book self.now) moment result }
-        ensures lawful { TellsSpentLawfully number moment result }
-    {
-        self.keep_law();
-        if !self.has_number(number) {
-            return None;
-        }
-        self.spent(moment)
-    }
 }
 
 impl Proxy {
@@ -130,6 +117,9 @@ impl Proxy {
         requires { lane < self.now }
         ensures { TellsSpentLawfully lane moment result }
     {
-        self.lock(rt, lane).spent_for(lane, moment)
+        let Ok(desk) = own(self.lock(rt, lane), lane) else {
+            return None;
+        };
+        desk.spent(moment)
     }
 }

@@ -63,7 +63,6 @@ impl Proxy {
     }
 }
 
-/// Returns when the request at a place was accepted, if there is one.
 fn moment_at(stamps: &[Stamp], place: usize) -> Option<Moment>
     ensures { result ≡ option_map (λ s. s.moment) (slice_get stamps.now place) }
 {
@@ -73,7 +72,6 @@ fn moment_at(stamps: &[Stamp], place: usize) -> Option<Moment>
     }
 }
 
-/// Returns when the last answer was given, if there is one.
 fn moment_of_last(answers: &[Answered]) -> Option<Moment>
     ensures { result ≡ option_map (λ a. a.moment) (slice_get answers.now (length answers.now - 1)) }
 {
