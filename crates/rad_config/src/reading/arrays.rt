@@ -9,7 +9,6 @@ use super::document::{member, needed_value};
 use super::faults::{ConfigFault, Spot};
 use toml::{Table, Value};
 
-/// Reads an array that needs at least one table.
 #[tactic(auto, unfolding(crate::specs::Walk::some_tables_at))]
 pub(crate) fn some_tables<'t>(
     most: usize,
@@ -26,7 +25,6 @@ pub(crate) fn some_tables<'t>(
     tables_of_value(most, spot, value)
 }
 
-/// Reads an array that may be absent or empty.
 #[tactic(auto, unfolding(crate::specs::Walk::any_tables_at))]
 pub(crate) fn any_tables<'t>(
     most: usize,
@@ -41,7 +39,6 @@ pub(crate) fn any_tables<'t>(
     }
 }
 
-/// Returns a value that is an array of at most `most` tables.
 #[tactic(auto, using(crate::proofs::ArrayTables::length_tables), unfolding(crate::specs::Walk::tables_of))]
 fn tables_of_value(most: usize, spot: Spot, value: &Value) -> Result<&[Value], ConfigFault>
     ensures tables { ReadsTables result (tables_of most spot (view value.now)) }
@@ -59,7 +56,6 @@ fn tables_of_value(most: usize, spot: Spot, value: &Value) -> Result<&[Value], C
     Ok(values.as_slice())
 }
 
-/// Whether the elements of an array are tables.
 fn are_tables(values: &[Value]) -> bool
     ensures { MatchBool result
         (All IsTable values.now × (tables_in (items_view values.now) ≡ Some (tables_of_values values.now)))
@@ -68,7 +64,6 @@ fn are_tables(values: &[Value]) -> bool
     is_each_table(values)
 }
 
-/// Whether a value is an empty array.
 fn is_empty_array_value(value: &Value) -> bool
     ensures { result ≡ is_empty_array (view value.now) }
 {
@@ -78,7 +73,6 @@ fn is_empty_array_value(value: &Value) -> bool
     }
 }
 
-/// Returns a value that is known to be a table.
 pub(crate) fn table(value: &Value) -> &Table
     requires { IsTable value.now }
     ensures { table_view result.now ≡ table_of value.now }

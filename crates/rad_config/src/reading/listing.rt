@@ -33,7 +33,6 @@ pub fn list_faults(alloc: Global, doc: &Table) -> Result<Vec<ConfigFault>, Alloc
     Ok(faults)
 }
 
-/// Appends the faults of a document.
 #[tactic(auto, unfolding(crate::specs::Faults::faults_in))]
 fn add_of_document(faults: &mut Vec<ConfigFault>, doc: &Table) -> Result<(), AllocError>
     ensures { OnOk result (faults.new.items ≡ faults.old.items ++ faults_in (table_view doc.now)) }
@@ -45,7 +44,6 @@ fn add_of_document(faults: &mut Vec<ConfigFault>, doc: &Table) -> Result<(), All
     add_of_default(faults, doc)
 }
 
-/// Appends the faults of the keys at the top that are not arrays, but for a default home server that does not exist.
 #[tactic(auto, unfolding(crate::specs::Faults::top_faults))]
 fn add_of_top(faults: &mut Vec<ConfigFault>, doc: &Table) -> Result<(), AllocError>
     ensures { OnOk result (faults.new.items ≡ faults.old.items ++ top_faults (table_view doc.now)) }
@@ -57,7 +55,6 @@ fn add_of_top(faults: &mut Vec<ConfigFault>, doc: &Table) -> Result<(), AllocErr
     add_fault(faults, linger)
 }
 
-/// Returns the fault of the default home server's type.
 fn default_type_fault(doc: &Table) -> Option<ConfigFault>
     ensures { result ≡ result_err (walk.optional_text_at (spot Part.Top 0 Key.DefaultHome) (table_view doc.now)) }
 {
@@ -67,7 +64,6 @@ fn default_type_fault(doc: &Table) -> Option<ConfigFault>
     }
 }
 
-/// Appends the fault of a default home server that does not exist.
 #[tactic(auto, unfolding(crate::specs::Faults::default_faults))]
 fn add_of_default(faults: &mut Vec<ConfigFault>, doc: &Table) -> Result<(), AllocError>
     ensures { OnOk result (faults.new.items ≡ faults.old.items ++ default_faults (table_view doc.now)) }
@@ -77,7 +73,6 @@ fn add_of_default(faults: &mut Vec<ConfigFault>, doc: &Table) -> Result<(), Allo
     add_fault(faults, fault_or(None, unknown, fault))
 }
 
-/// Appends a fault, if there is one.
 fn add_fault(faults: &mut Vec<ConfigFault>, fault: Option<ConfigFault>) -> Result<(), AllocError>
     ensures { OnOk result (faults.new.items ≡ faults.old.items ++ option_to_list fault) }
 {
@@ -87,7 +82,6 @@ fn add_fault(faults: &mut Vec<ConfigFault>, fault: Option<ConfigFault>) -> Resul
     Ok(())
 }
 
-/// Returns a fault; or another if there is none and the test says so.
 fn fault_or(fault: Option<ConfigFault>, test: bool, other: ConfigFault) -> Option<ConfigFault>
     ensures { result ≡ or_if fault test other }
 {
@@ -98,7 +92,6 @@ fn fault_or(fault: Option<ConfigFault>, test: bool, other: ConfigFault) -> Optio
     }
 }
 
-/// Appends the faults of a part: of its array, or of each of its tables.
 #[tactic(auto, unfolding(crate::specs::Faults::part_faults))]
 fn add_of_part(faults: &mut Vec<ConfigFault>, part: Part, doc: &Table) -> Result<(), AllocError>
     ensures { OnOk result (faults.new.items ≡ faults.old.items ++ part_faults part (table_view doc.now)) }
@@ -109,7 +102,6 @@ fn add_of_part(faults: &mut Vec<ConfigFault>, part: Part, doc: &Table) -> Result
     }
 }
 
-/// Returns the tables of a part.
 fn array(part: Part, doc: &Table) -> Result<&[Value], ConfigFault>
     ensures { ReadsTables result (array_of part (table_view doc.now)) }
 {
@@ -121,7 +113,6 @@ fn array(part: Part, doc: &Table) -> Result<&[Value], ConfigFault>
     }
 }
 
-/// Returns the tables of the home servers, or none if their array has a fault.
 fn home_tables(doc: &Table) -> &[Value]
     ensures { tables_of_values result.now ≡ tables_of_homes (table_view doc.now) }
 {
@@ -131,7 +122,6 @@ fn home_tables(doc: &Table) -> &[Value]
     }
 }
 
-/// Appends the faults of the tables of a part.
 fn add_of_tables(
     faults: &mut Vec<ConfigFault>,
     part: Part,
@@ -149,7 +139,6 @@ fn add_of_tables(
     Ok(())
 }
 
-/// Appends the faults of a part's table.
 fn add_of_table(
     faults: &mut Vec<ConfigFault>,
     part: Part,
@@ -169,7 +158,6 @@ fn add_of_table(
     }
 }
 
-/// Appends the faults of a client's table.
 #[tactic(auto, unfolding(crate::specs::Faults::client_faults))]
 fn add_of_client(
     faults: &mut Vec<ConfigFault>,
@@ -186,7 +174,6 @@ fn add_of_client(
     )
 }
 
-/// Returns the fault of a client's address.
 fn address_fault(earlier: &[Value], doc: &Table) -> Option<ConfigFault>
     ensures { result ≡ client_address_fault (length earlier.now) (tables_of_values earlier.now) (table_view doc.now) }
 {
@@ -195,7 +182,6 @@ fn address_fault(earlier: &[Value], doc: &Table) -> Option<ConfigFault>
     fault_or(address(at, doc).err(), double, ConfigFault::DoubleName(at))
 }
 
-/// Appends the faults of a home server's table.
 #[tactic(auto, unfolding(crate::specs::Faults::home_faults))]
 fn add_of_home(
     faults: &mut Vec<ConfigFault>,
@@ -213,7 +199,6 @@ fn add_of_home(
     add_fault(faults, lane_limits(index, doc).err())
 }
 
-/// Returns the fault of a home server's name.
 fn server_fault(earlier: &[Value], doc: &Table) -> Option<ConfigFault>
     ensures { result ≡ home_name_fault (length earlier.now) (tables_of_values earlier.now) (table_view doc.now) }
 {
@@ -222,7 +207,6 @@ fn server_fault(earlier: &[Value], doc: &Table) -> Option<ConfigFault>
     fault_or(form_of_server(at, doc), double, ConfigFault::DoubleName(at))
 }
 
-/// Returns the fault of the form of a home server's name.
 fn form_of_server(at: Spot, doc: &Table) -> Option<ConfigFault>
     ensures { result ≡ result_err (walk.home_name_at at (table_view doc.now)) }
 {
@@ -232,7 +216,6 @@ fn form_of_server(at: Spot, doc: &Table) -> Option<ConfigFault>
     }
 }
 
-/// Appends the faults of a realm's table.
 #[tactic(auto, unfolding(crate::specs::Faults::realm_faults))]
 fn add_of_realm(
     faults: &mut Vec<ConfigFault>,
@@ -246,7 +229,6 @@ fn add_of_realm(
     add_fault(faults, reference_fault(homes, earlier.len(), doc))
 }
 
-/// Returns the fault of a realm's name.
 fn realm_fault(earlier: &[Value], doc: &Table) -> Option<ConfigFault>
     ensures { result ≡ realm_name_fault (length earlier.now) (tables_of_values earlier.now) (table_view doc.now) }
 {
@@ -258,7 +240,6 @@ fn realm_fault(earlier: &[Value], doc: &Table) -> Option<ConfigFault>
     fault_or(form_of_realm(at, doc), double, ConfigFault::DoubleName(at))
 }
 
-/// Returns the fault of the form of a realm's name.
 fn form_of_realm(at: Spot, doc: &Table) -> Option<ConfigFault>
     ensures { result ≡ result_err (walk.realm_name_at at (table_view doc.now)) }
 {
@@ -268,7 +249,6 @@ fn form_of_realm(at: Spot, doc: &Table) -> Option<ConfigFault>
     }
 }
 
-/// Returns the fault of a realm's home server.
 fn reference_fault(homes: &[Value], index: usize, doc: &Table) -> Option<ConfigFault>
     ensures { result ≡ realm_home_fault (tables_of_values homes.now) index (table_view doc.now) }
 {
@@ -281,7 +261,6 @@ fn reference_fault(homes: &[Value], index: usize, doc: &Table) -> Option<ConfigF
     )
 }
 
-/// Returns the fault of the form of a realm's home server.
 fn form_of_reference(at: Spot, doc: &Table) -> Option<ConfigFault>
     ensures { result ≡ result_err (walk.text_at at (table_view doc.now)) }
 {
@@ -291,7 +270,6 @@ fn form_of_reference(at: Spot, doc: &Table) -> Option<ConfigFault>
     }
 }
 
-/// Whether there is a name, and none of these home servers has it.
 fn is_unknown(homes: &[Value], name: Option<&str>) -> bool
     ensures { result ≡ names_none (tables_of_values homes.now) (option_map (λ s. s.now) name.entry) }
 {
@@ -301,7 +279,6 @@ fn is_unknown(homes: &[Value], name: Option<&str>) -> bool
     }
 }
 
-/// Whether an earlier table has the same text at a key as this one.
 fn is_earlier(earlier: &[Value], key: Key, doc: &Table) -> bool
     ensures { result ≡ is_text (stands_among (tables_of_values earlier.now) key) (text_of key (table_view doc.now)) }
 {
@@ -311,14 +288,12 @@ fn is_earlier(earlier: &[Value], key: Key, doc: &Table) -> bool
     }
 }
 
-/// Whether one of the tables has this text at a key.
 fn is_among(tables: &[Value], key: Key, text: &str) -> bool
     ensures { result ≡ stands_among (tables_of_values tables.now) key text.now }
 {
     has_any_text(tables, key, text)
 }
 
-/// Whether a table has this text at a key.
 fn has_text(value: &Value, key: Key, text: &str) -> bool
     ensures { result ≡ is_text (λ other. bytes_eq other text.now) (text_of key (table_of value.now)) }
 {
@@ -328,14 +303,12 @@ fn has_text(value: &Value, key: Key, text: &str) -> bool
     }
 }
 
-/// Whether one of the tables has this realm's name.
 fn is_realm_among(tables: &[Value], name: &str) -> bool
     ensures { result ≡ realm_stands_among (tables_of_values tables.now) name.now }
 {
     has_any_realm(tables, name)
 }
 
-/// Whether a table has this realm's name.
 fn has_realm(value: &Value, name: &str) -> bool
     ensures { result ≡ is_text (λ other. str_eq_ignore_ascii_case other name.now) (text_of Key.Name (table_of value.now)) }
 {
@@ -345,7 +318,6 @@ fn has_realm(value: &Value, name: &str) -> bool
     }
 }
 
-/// Returns the text at a key of a value that is a table.
 fn text_of_table(value: &Value, key: Key) -> Option<&str>
     ensures { option_map (λ s. s.now) result ≡ text_of key (table_of value.now) }
 {
@@ -355,7 +327,6 @@ fn text_of_table(value: &Value, key: Key) -> Option<&str>
     }
 }
 
-/// Returns the text at a key.
 fn text_at_key(key: Key, doc: &Table) -> Option<&str>
     ensures { option_map (λ s. s.now) result ≡ text_of key (table_view doc.now) }
 {

@@ -36,7 +36,6 @@ pub fn read_config(alloc: Global, text: &str) -> Result<Config, ConfigFault>
     }
 }
 
-/// Reads the configuration from a document.
 #[tactic(auto, unfolding(crate::specs::Walk::walk))]
 fn read_document(alloc: Global, doc: &Table) -> Result<Config, ConfigFault>
     ensures { Gives result (walk (table_view doc.now)) }
@@ -59,7 +58,6 @@ fn read_document(alloc: Global, doc: &Table) -> Result<Config, ConfigFault>
     Ok(config)
 }
 
-/// Reads the clients, 1 to 256.
 #[tactic(auto, unfolding(crate::specs::Walk::clients_in))]
 fn read_clients(alloc: Global, doc: &Table) -> Result<Clients, ConfigFault>
     ensures { Gives result (clients_in (table_view doc.now)) }
@@ -68,7 +66,6 @@ fn read_clients(alloc: Global, doc: &Table) -> Result<Clients, ConfigFault>
     clients_of(alloc, tables)
 }
 
-/// Reads the home servers, 1 to 64.
 #[tactic(auto, unfolding(crate::specs::Walk::homes_in))]
 fn read_homes(alloc: Global, doc: &Table) -> Result<Homes, ConfigFault>
     ensures { Gives result (homes_in (table_view doc.now)) }
@@ -77,7 +74,6 @@ fn read_homes(alloc: Global, doc: &Table) -> Result<Homes, ConfigFault>
     homes_of(alloc, tables)
 }
 
-/// Reads the realms, at most 256.
 #[tactic(auto, unfolding(crate::specs::Walk::realms_in))]
 fn read_realms(alloc: Global, homes: &Homes, doc: &Table) -> Result<Realms, ConfigFault>
     ensures { Gives result (realms_in homes.now (table_view doc.now)) }
@@ -86,7 +82,6 @@ fn read_realms(alloc: Global, homes: &Homes, doc: &Table) -> Result<Realms, Conf
     realms_of(alloc, homes, tables)
 }
 
-/// Finds the lane of the default home server, if one is named.
 fn default_lane(homes: &Homes, name: Option<&str>) -> Result<Option<u16>, ConfigFault>
     ensures { result ≡ default_lane_in homes.now (option_map (λ s. s.now) name.entry) }
 {
