@@ -23,8 +23,8 @@ use Rattle.rad_config.specs.Printed.{address_text}
 use Rattle.rad_config.specs.Spot.{key_name}
 use Rattle.rad_config.specs.Realm.{or_else, same_name}
 use Rattle.rad_config.specs.Configuration.{ClientEntry, HomeEntry, RealmEntry}
-use Rattle.rad_config.specs.Walk.{◌>>=◌, refuse_if, spot, needed, text_in, text_at, text_that, address_at, endpoint_at, secret_at, is_home_name, home_name_at, is_realm_name, realm_name_at, number_at, text_or_none, optional_text_at, lane_named, limits_at, each, client_in, home_in, realm_in_table, some_tables_at, any_tables_at, clients_in, homes_in, realms_in, default_lane_in, walk}
-use Rattle.rad_config.specs.Faults.{text_of, is_text, is_among, is_realm_among, or_if, client_faults, home_faults, is_unknown, realm_faults, table_faults, each_faults, array_faults, array_of, tables_or_empty, home_tables, part_faults, top_faults, default_faults, faults_in, first_of}
+use Rattle.rad_config.specs.Walk.{◌>>=◌, refuse_if, spot, needed, text_in, text_at, text_that, address_at, endpoint_at, secret_at, is_home_name, home_name_at, is_realm_name, realm_name_at, number_at, text_or_none, optional_text_at, lane_named, limits_at, each, client_in, home_in, realm_in_table, array_of, listen_in, default_home_in, linger_in, clients_in, homes_in, realms_in, default_lane_in, walk}
+use Rattle.rad_config.specs.Faults.{text_of, is_text, is_among, is_realm_among, or_if, client_faults, home_faults, is_unknown, realm_faults, table_faults, each_faults, array_faults, tables_or_empty, home_tables, part_faults, top_faults, default_faults, faults_in, first_of}
 use Rattle.rad_config.proofs.Steps.{same_ok, bound, known, kept_by}
 use Rattle.rad_config.proofs.Addresses.{address_only}
 
@@ -310,18 +310,17 @@ module _ (servers : List HomeEntry) (homes : List Members) (known_homes : KnowsH
 homes_are_known : (doc : Members) (servers : List HomeEntry) → homes_in doc ≡ Ok servers → KnowsHomes servers (home_tables doc)
 unfolding homes_in
 homes_are_known doc servers e =
-    let r = some_tables_at 64 (spot part.Top 0 Home) doc in
-    let b = bound r (each home_in []) servers e in
+    let b = bound (array_of part.Home doc) (each home_in []) servers e in
     let tables : home_tables doc ≡ b.0 = ap tables_or_empty b.1 in
     rw tables (all_known home_in part.Home [] KnowsHomes (home_first []) home_keeps [] [] b.0 servers (λ text. refl) b.2)
 
 pub first_of_document : (doc : Members) → first_of (faults_in doc) ≡ result_err (walk doc)
-unfolding faults_in top_faults part_faults default_faults clients_in homes_in realms_in some_tables_at walk
+unfolding faults_in top_faults part_faults default_faults clients_in homes_in realms_in walk
 first_of_document doc =
     let homes = home_tables doc in
-    let listen = endpoint_at (spot part.Top 0 Listen) doc in
-    let default = optional_text_at (spot part.Top 0 DefaultHome) doc in
-    let linger = number_at 0 600000 5000 (spot part.Top 0 Linger) doc in
+    let listen = listen_in doc in
+    let default = default_home_in doc in
+    let linger = linger_in doc in
     let a = option_to_list (result_err listen) in
     let b = option_to_list (result_err default) in
     let c = option_to_list (result_err linger) in

@@ -8,13 +8,13 @@ use Rattle.toml.specs.Data.{Members, get_member, as_str}
 use Rattle.rad_config.specs.declared.reading.faults.Part.{Part}
 use Rattle.rad_config.specs.declared.reading.faults.Part.TheVariants as part
 use Rattle.rad_config.specs.declared.reading.faults.Key.{Key}
-use Rattle.rad_config.specs.declared.reading.faults.Key.TheVariants.{Listen, DefaultHome, Linger, Client, Home, Realm, Address, Secret, Name}
+use Rattle.rad_config.specs.declared.reading.faults.Key.TheVariants.{DefaultHome, Home, Address, Secret, Name}
 use Rattle.rad_config.specs.declared.reading.faults.Spot.{Spot}
 use Rattle.rad_config.specs.declared.reading.faults.ConfigFault.{ConfigFault}
 use Rattle.rad_config.specs.declared.reading.faults.ConfigFault.TheVariants.{DoubleName, UnknownHome}
 use Rattle.rad_config.specs.Realm.{or_else}
 use Rattle.rad_config.specs.Spot.{key_name}
-use Rattle.rad_config.specs.Walk.{spot, address_at, endpoint_at, secret_at, text_at, optional_text_at, home_name_at, realm_name_at, number_at, limits_at, some_tables_at, any_tables_at}
+use Rattle.rad_config.specs.Walk.{spot, address_at, endpoint_at, secret_at, text_at, home_name_at, realm_name_at, limits_at, array_of, listen_in, default_home_in, linger_in}
 
 -- The text at a key, if there is one.
 abbrev pub text_of : Key → Members → Option (List ℕ)
@@ -100,13 +100,6 @@ tables_or_empty (Err fault) = []
 
 -- ---- the whole
 
--- The array of a part. The top has none.
-abbrev pub array_of : Part → Members → Result (List Members) ConfigFault
-array_of part.Top doc = Ok []
-array_of part.Client doc = some_tables_at 256 (spot part.Top 0 Client) doc
-array_of part.Home doc = some_tables_at 64 (spot part.Top 0 Home) doc
-array_of part.Realm doc = any_tables_at 256 (spot part.Top 0 Realm) doc
-
 abbrev pub home_tables : Members → List Members
 home_tables doc = tables_or_empty (array_of part.Home doc)
 
@@ -115,9 +108,8 @@ part_faults p doc = array_faults p (home_tables doc) (array_of p doc)
 
 unfoldable pub top_faults : Members → List ConfigFault
 top_faults doc =
-    option_to_list (result_err (endpoint_at (spot part.Top 0 Listen) doc))
-    ++ (option_to_list (result_err (optional_text_at (spot part.Top 0 DefaultHome) doc))
-    ++ option_to_list (result_err (number_at 0 600000 5000 (spot part.Top 0 Linger) doc)))
+    option_to_list (result_err (listen_in doc))
+    ++ (option_to_list (result_err (default_home_in doc)) ++ option_to_list (result_err (linger_in doc)))
 
 unfoldable pub default_faults : Members → List ConfigFault
 default_faults doc =

@@ -80,8 +80,9 @@ fn read_octet(text: &str) -> Option<u8>
     Some(number as u8)
 }
 
+/// Reads a decimal number from `least` to `most`, without leading zeros. Returns `None` for any other text.
 #[tactic(auto, unfolding(crate::specs::Address::number_in))]
-fn read_number(least: u16, most: u16, text: &str) -> Option<u16>
+pub fn read_number(least: u16, most: u16, text: &str) -> Option<u16>
     ensures { result ≡ number_in least most text.now }
 {
     if !is_number_text(text.as_bytes()) {
@@ -102,9 +103,9 @@ fn is_number_text(text: &[u8]) -> bool
     are_digits(text)
 }
 
-/// For the proof: splits a text at the first delimiter, an ASCII character.
+/// Returns the parts of a text before and after the first delimiter, an ASCII character. Returns `None` if it isn't there.
 #[tactic(auto, unfolding(crate::specs::Address::around_first))]
-fn split_around(text: &str, delimiter: char) -> Option<(&str, &str)>
+pub fn split_around(text: &str, delimiter: char) -> Option<(&str, &str)>
     requires { delimiter < 128 }
     ensures { option_map (λ parts. (parts.0.now, parts.1.now)) result ≡ around_first delimiter text.now }
 {

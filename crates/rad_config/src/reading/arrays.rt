@@ -3,14 +3,27 @@
 ghost use Rattle.std.specs.Prelude.{◌≡◌, ◌≤◌, length, All, IfOk, Some, None, IsTrue, MatchBool, ◌↔◌};
 ghost use Rattle.toml.specs.View.{view, items_view, table_view};
 ghost use Rattle.rad_config.specs.internal.Values.{IsTable, table_of, tables_of_values, ReadsTables};
-ghost use Rattle.rad_config.specs.Walk.{is_empty_array, tables_in, tables_of, some_tables_at, any_tables_at};
+ghost use Rattle.rad_config.specs.Walk.{is_empty_array, tables_in, tables_of, some_tables_at, any_tables_at, array_of};
 
 use super::document::{member, needed_value};
-use super::faults::{ConfigFault, Spot};
+use super::faults::{ConfigFault, Key, Part, Spot};
+use super::sections::spot_of;
 use toml::{Table, Value};
 
+pub(crate) fn tables_of_part(part: Part, doc: &Table) -> Result<&[Value], ConfigFault>
+    ensures tables { ReadsTables result (array_of part (table_view doc.now)) }
+    ensures homes { part ≡ Part.Home → IfOk result (λ values. length values.now ≤ 64) }
+{
+    match part {
+        Part::Top => Ok(&[]),
+        Part::Client => some_tables(256, spot_of(Part::Top, 0, Key::Client), doc),
+        Part::Home => some_tables(64, spot_of(Part::Top, 0, Key::Home), doc),
+        Part::Realm => any_tables(256, spot_of(Part::Top, 0, Key::Realm), doc),
+    }
+}
+
 #[tactic(auto, unfolding(crate::specs::Walk::some_tables_at))]
-pub(crate) fn some_tables<'t>(
+fn some_tables<'t>(
     most: usize,
     spot: Spot,
     doc: &'t Table,
@@ -26,7 +39,7 @@ pub(crate) fn some_tables<'t>(
 }
 
 #[tactic(auto, unfolding(crate::specs::Walk::any_tables_at))]
-pub(crate) fn any_tables<'t>(
+fn any_tables<'t>(
     most: usize,
     spot: Spot,
     doc: &'t Table,

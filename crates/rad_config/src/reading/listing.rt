@@ -5,17 +5,15 @@ ghost use Rattle.std.specs.List.{list_any};
 ghost use Rattle.std.specs.Result.{result_err};
 ghost use Rattle.std.specs.Str.{bytes_eq, str_eq_ignore_ascii_case};
 ghost use Rattle.toml.specs.View.{view, table_view};
-ghost use Rattle.rad_config.specs.internal.Values.{IsTable, table_of, tables_of_values, ReadsTables};
-ghost use Rattle.rad_config.specs.Walk.{spot};
+ghost use Rattle.rad_config.specs.internal.Values.{IsTable, table_of, tables_of_values};
 ghost use Rattle.rad_config.specs.Walk as walk;
-ghost use Rattle.rad_config.specs.Faults.{text_of, is_text, is_among as stands_among, is_realm_among as realm_stands_among, is_unknown as names_none, or_if, client_address_fault, client_faults, home_name_fault, home_faults, realm_name_fault, realm_home_fault, realm_faults, table_faults, each_faults, array_faults, array_of, home_tables as tables_of_homes, part_faults, top_faults, default_faults, faults_in};
+ghost use Rattle.rad_config.specs.Faults.{text_of, is_text, is_among as stands_among, is_realm_among as realm_stands_among, is_unknown as names_none, or_if, client_address_fault, client_faults, home_name_fault, home_faults, realm_name_fault, realm_home_fault, realm_faults, table_faults, each_faults, array_faults, home_tables as tables_of_homes, part_faults, top_faults, default_faults, faults_in};
 
-use super::arrays::{any_tables, some_tables, table};
-use super::document::{
-    address, address_and_port, home_name, member, number, optional_text, realm_name, secret, text,
-};
+use super::arrays::{table, tables_of_part};
+use super::document::{address, address_and_port, home_name, member, realm_name, secret, text};
 use super::faults::{ConfigFault, Key, Part, Spot};
 use super::sections::{lane_limits, spot_of};
+use super::walk::{default_home, linger, listen};
 use std::alloc::{AllocError, Global};
 use toml::{Table, Value};
 
@@ -48,17 +46,15 @@ fn add_of_document(faults: &mut Vec<ConfigFault>, doc: &Table) -> Result<(), All
 fn add_of_top(faults: &mut Vec<ConfigFault>, doc: &Table) -> Result<(), AllocError>
     ensures { OnOk result (faults.new.items ≡ faults.old.items ++ top_faults (table_view doc.now)) }
 {
-    let listen = address_and_port(spot_of(Part::Top, 0, Key::Listen), doc).err();
-    add_fault(faults, listen)?;
+    add_fault(faults, listen(doc).err())?;
     add_fault(faults, default_type_fault(doc))?;
-    let linger = number(0, 600_000, 5000, spot_of(Part::Top, 0, Key::Linger), doc).err();
-    add_fault(faults, linger)
+    add_fault(faults, linger(doc).err())
 }
 
 fn default_type_fault(doc: &Table) -> Option<ConfigFault>
-    ensures { result ≡ result_err (walk.optional_text_at (spot Part.Top 0 Key.DefaultHome) (table_view doc.now)) }
+    ensures { result ≡ result_err (walk.default_home_in (table_view doc.now)) }
 {
-    match optional_text(spot_of(Part::Top, 0, Key::DefaultHome), doc) {
+    match default_home(doc) {
         Ok(_) => None,
         Err(fault) => Some(fault),
     }
@@ -96,27 +92,16 @@ fn fault_or(fault: Option<ConfigFault>, test: bool, other: ConfigFault) -> Optio
 fn add_of_part(faults: &mut Vec<ConfigFault>, part: Part, doc: &Table) -> Result<(), AllocError>
     ensures { OnOk result (faults.new.items ≡ faults.old.items ++ part_faults part (table_view doc.now)) }
 {
-    match array(part, doc) {
+    match tables_of_part(part, doc) {
         Ok(tables) => add_of_tables(faults, part, home_tables(doc), tables),
         Err(fault) => add_fault(faults, Some(fault)),
-    }
-}
-
-fn array(part: Part, doc: &Table) -> Result<&[Value], ConfigFault>
-    ensures { ReadsTables result (array_of part (table_view doc.now)) }
-{
-    match part {
-        Part::Top => Ok(&[]),
-        Part::Client => some_tables(256, spot_of(Part::Top, 0, Key::Client), doc),
-        Part::Home => some_tables(64, spot_of(Part::Top, 0, Key::Home), doc),
-        Part::Realm => any_tables(256, spot_of(Part::Top, 0, Key::Realm), doc),
     }
 }
 
 fn home_tables(doc: &Table) -> &[Value]
     ensures { tables_of_values result.now ≡ tables_of_homes (table_view doc.now) }
 {
-    match array(Part::Home, doc) {
+    match tables_of_part(Part::Home, doc) {
         Ok(tables) => tables,
         Err(_) => &[],
     }
