@@ -1,13 +1,10 @@
 //! Listing all faults of a configuration, where reading it stops at the first.
 
-ghost use Rattle.std.specs.Prelude.{◌≡◌, ◌++◌, [], All, not, option_map, option_to_list, IfOk, OnOk, ◌≤◌, length};
+ghost use Rattle.std.specs.Prelude.{◌≡◌, ◌++◌, [], All, option_map, option_to_list, IfOk, OnOk, length};
 ghost use Rattle.std.specs.List.{list_any};
-ghost use Rattle.std.specs.Result.{result_err};
-ghost use Rattle.std.specs.Str.{bytes_eq, str_eq_ignore_ascii_case};
-ghost use Rattle.toml.specs.View.{view, table_view};
+ghost use Rattle.toml.specs.View.{table_view};
 ghost use Rattle.rad_config.specs.internal.Values.{IsTable, table_of, tables_of_values};
-ghost use Rattle.rad_config.specs.Walk as walk;
-ghost use Rattle.rad_config.specs.Faults.{text_of, is_text, is_among as stands_among, is_realm_among as realm_stands_among, is_unknown as names_none, or_if, client_address_fault, client_faults, home_name_fault, home_faults, realm_name_fault, realm_home_fault, realm_faults, table_faults, each_faults, array_faults, home_tables as tables_of_homes, part_faults, top_faults, default_faults, faults_in};
+ghost use Rattle.rad_config.specs.Faults.{text_of, is_text, is_same, is_among as stands_among, is_unknown as names_none, or_if, name_fault, home_fault, client_faults, home_faults, realm_faults, table_faults, each_faults, home_tables as tables_of_homes, part_faults, top_faults, default_faults, faults_in};
 
 use super::arrays::{table, tables_of_part};
 use super::document::{address, address_and_port, home_name, member, realm_name, secret, text};
@@ -42,22 +39,13 @@ fn add_of_document(faults: &mut Vec<ConfigFault>, doc: &Table) -> Result<(), All
     add_of_default(faults, doc)
 }
 
-#[tactic(auto, unfolding(crate::specs::Faults::top_faults))]
+#[tactic(auto, unfolding(crate::specs::Faults::top_faults), using(crate::proofs::Listing::reads_err))]
 fn add_of_top(faults: &mut Vec<ConfigFault>, doc: &Table) -> Result<(), AllocError>
     ensures { OnOk result (faults.new.items ≡ faults.old.items ++ top_faults (table_view doc.now)) }
 {
     add_fault(faults, listen(doc).err())?;
-    add_fault(faults, default_type_fault(doc))?;
+    add_fault(faults, default_home(doc).err())?;
     add_fault(faults, linger(doc).err())
-}
-
-fn default_type_fault(doc: &Table) -> Option<ConfigFault>
-    ensures { result ≡ result_err (walk.default_home_in (table_view doc.now)) }
-{
-    match default_home(doc) {
-        Ok(_) => None,
-        Err(fault) => Some(fault),
-    }
 }
 
 #[tactic(auto, unfolding(crate::specs::Faults::default_faults))]
@@ -152,22 +140,14 @@ fn add_of_client(
     ensures { OnOk result (faults.new.items ≡ faults.old.items ++ client_faults (length earlier.now) (tables_of_values earlier.now) (table_view doc.now)) }
 {
     let index = earlier.len();
-    add_fault(faults, address_fault(earlier, doc))?;
-    add_fault(
-        faults,
-        secret(spot_of(Part::Client, index, Key::Secret), doc).err(),
-    )
+    let at = spot_of(Part::Client, index, Key::Address);
+    let form = address(at, doc).err();
+    let secret = secret(spot_of(Part::Client, index, Key::Secret), doc).err();
+    add_fault(faults, fault_of_name(form, at, earlier, doc))?;
+    add_fault(faults, secret)
 }
 
-fn address_fault(earlier: &[Value], doc: &Table) -> Option<ConfigFault>
-    ensures { result ≡ client_address_fault (length earlier.now) (tables_of_values earlier.now) (table_view doc.now) }
-{
-    let at = spot_of(Part::Client, earlier.len(), Key::Address);
-    let double = is_earlier(earlier, Key::Address, doc);
-    fault_or(address(at, doc).err(), double, ConfigFault::DoubleName(at))
-}
-
-#[tactic(auto, unfolding(crate::specs::Faults::home_faults))]
+#[tactic(auto, unfolding(crate::specs::Faults::home_faults), using(crate::proofs::Listing::reads_err))]
 fn add_of_home(
     faults: &mut Vec<ConfigFault>,
     earlier: &[Value],
@@ -176,32 +156,17 @@ fn add_of_home(
     ensures { OnOk result (faults.new.items ≡ faults.old.items ++ home_faults (length earlier.now) (tables_of_values earlier.now) (table_view doc.now)) }
 {
     let index = earlier.len();
+    let at = spot_of(Part::Home, index, Key::Name);
+    let form = home_name(at, doc).err();
     let endpoint = address_and_port(spot_of(Part::Home, index, Key::Address), doc).err();
     let secret = secret(spot_of(Part::Home, index, Key::Secret), doc).err();
-    add_fault(faults, server_fault(earlier, doc))?;
+    add_fault(faults, fault_of_name(form, at, earlier, doc))?;
     add_fault(faults, endpoint)?;
     add_fault(faults, secret)?;
     add_fault(faults, lane_limits(index, doc).err())
 }
 
-fn server_fault(earlier: &[Value], doc: &Table) -> Option<ConfigFault>
-    ensures { result ≡ home_name_fault (length earlier.now) (tables_of_values earlier.now) (table_view doc.now) }
-{
-    let at = spot_of(Part::Home, earlier.len(), Key::Name);
-    let double = is_earlier(earlier, Key::Name, doc);
-    fault_or(form_of_server(at, doc), double, ConfigFault::DoubleName(at))
-}
-
-fn form_of_server(at: Spot, doc: &Table) -> Option<ConfigFault>
-    ensures { result ≡ result_err (walk.home_name_at at (table_view doc.now)) }
-{
-    match home_name(at, doc) {
-        Ok(_) => None,
-        Err(fault) => Some(fault),
-    }
-}
-
-#[tactic(auto, unfolding(crate::specs::Faults::realm_faults))]
+#[tactic(auto, unfolding(crate::specs::Faults::realm_faults), using(crate::proofs::Listing::reads_err))]
 fn add_of_realm(
     faults: &mut Vec<ConfigFault>,
     homes: &[Value],
@@ -210,127 +175,87 @@ fn add_of_realm(
 ) -> Result<(), AllocError>
     ensures { OnOk result (faults.new.items ≡ faults.old.items ++ realm_faults (tables_of_values homes.now) (length earlier.now) (tables_of_values earlier.now) (table_view doc.now)) }
 {
-    add_fault(faults, realm_fault(earlier, doc))?;
-    add_fault(faults, reference_fault(homes, earlier.len(), doc))
-}
-
-fn realm_fault(earlier: &[Value], doc: &Table) -> Option<ConfigFault>
-    ensures { result ≡ realm_name_fault (length earlier.now) (tables_of_values earlier.now) (table_view doc.now) }
-{
-    let at = spot_of(Part::Realm, earlier.len(), Key::Name);
-    let double = match text_at_key(Key::Name, doc) {
-        Some(name) => is_realm_among(earlier, name),
-        None => false,
-    };
-    fault_or(form_of_realm(at, doc), double, ConfigFault::DoubleName(at))
-}
-
-fn form_of_realm(at: Spot, doc: &Table) -> Option<ConfigFault>
-    ensures { result ≡ result_err (walk.realm_name_at at (table_view doc.now)) }
-{
-    match realm_name(at, doc) {
-        Ok(_) => None,
-        Err(fault) => Some(fault),
-    }
-}
-
-fn reference_fault(homes: &[Value], index: usize, doc: &Table) -> Option<ConfigFault>
-    ensures { result ≡ realm_home_fault (tables_of_values homes.now) index (table_view doc.now) }
-{
-    let at = spot_of(Part::Realm, index, Key::Home);
-    let unknown = is_unknown(homes, text_at_key(Key::Home, doc));
-    fault_or(
-        form_of_reference(at, doc),
-        unknown,
-        ConfigFault::UnknownHome(at),
+    let index = earlier.len();
+    let at = spot_of(Part::Realm, index, Key::Name);
+    let form = realm_name(at, doc).err();
+    add_fault(faults, fault_of_name(form, at, earlier, doc))?;
+    add_fault(
+        faults,
+        fault_of_home(spot_of(Part::Realm, index, Key::Home), homes, doc),
     )
 }
 
-fn form_of_reference(at: Spot, doc: &Table) -> Option<ConfigFault>
-    ensures { result ≡ result_err (walk.text_at at (table_view doc.now)) }
+#[tactic(auto, using(crate::proofs::Listing::reads_err))]
+fn fault_of_home(at: Spot, homes: &[Value], doc: &Table) -> Option<ConfigFault>
+    ensures { result ≡ home_fault at (tables_of_values homes.now) (table_view doc.now) }
 {
-    match text(at, doc) {
-        Ok(_) => None,
-        Err(fault) => Some(fault),
-    }
+    let unknown = is_unknown(homes, text_at_key(at.key, doc));
+    fault_or(text(at, doc).err(), unknown, ConfigFault::UnknownHome(at))
+}
+
+fn fault_of_name(
+    form: Option<ConfigFault>,
+    at: Spot,
+    earlier: &[Value],
+    doc: &Table,
+) -> Option<ConfigFault>
+    ensures { result ≡ name_fault form at (tables_of_values earlier.now) (table_view doc.now) }
+{
+    let double = match text_at_key(at.key, doc) {
+        Some(text) => is_among(at.part, earlier, at.key, text),
+        None => false,
+    };
+    fault_or(form, double, ConfigFault::DoubleName(at))
 }
 
 fn is_unknown(homes: &[Value], name: Option<&str>) -> bool
     ensures { result ≡ names_none (tables_of_values homes.now) (option_map (λ s. s.now) name.entry) }
 {
     match name {
-        Some(name) => !is_among(homes, Key::Name, name),
+        Some(name) => !is_among(Part::Home, homes, Key::Name, name),
         None => false,
     }
 }
 
-fn is_earlier(earlier: &[Value], key: Key, doc: &Table) -> bool
-    ensures { result ≡ is_text (stands_among (tables_of_values earlier.now) key) (text_of key (table_view doc.now)) }
+fn is_among(part: Part, tables: &[Value], key: Key, text: &str) -> bool
+    ensures { result ≡ stands_among part (tables_of_values tables.now) key text.now }
 {
-    match text_at_key(key, doc) {
-        Some(text) => is_among(earlier, key, text),
-        None => false,
-    }
+    has_any_text(part, tables, key, text)
 }
 
-fn is_among(tables: &[Value], key: Key, text: &str) -> bool
-    ensures { result ≡ stands_among (tables_of_values tables.now) key text.now }
+/// For the proof: whether one of these values is a table that has this text at a key.
+fn has_any_text(part: Part, values: &[Value], key: Key, text: &str) -> bool
+    ensures { result ≡ list_any (λ v. is_text (λ other. is_same part other text.now) (text_of key (table_of v))) values.now }
 {
-    has_any_text(tables, key, text)
+    values.iter().any(|value| has_text(part, value, key, text))
 }
 
-fn has_text(value: &Value, key: Key, text: &str) -> bool
-    ensures { result ≡ is_text (λ other. bytes_eq other text.now) (text_of key (table_of value.now)) }
+fn has_text(part: Part, value: &Value, key: Key, text: &str) -> bool
+    ensures { result ≡ is_text (λ other. is_same part other text.now) (text_of key (table_of value.now)) }
 {
     match text_of_table(value, key) {
-        Some(other) => other == text,
+        Some(other) => is_same(part, other, text),
         None => false,
     }
 }
 
-fn is_realm_among(tables: &[Value], name: &str) -> bool
-    ensures { result ≡ realm_stands_among (tables_of_values tables.now) name.now }
+fn is_same(part: Part, name: &str, other: &str) -> bool
+    ensures { result ≡ is_same part name.now other.now }
 {
-    has_any_realm(tables, name)
-}
-
-fn has_realm(value: &Value, name: &str) -> bool
-    ensures { result ≡ is_text (λ other. str_eq_ignore_ascii_case other name.now) (text_of Key.Name (table_of value.now)) }
-{
-    match text_of_table(value, Key::Name) {
-        Some(other) => other.eq_ignore_ascii_case(name),
-        None => false,
+    match part {
+        Part::Realm => name.eq_ignore_ascii_case(other),
+        Part::Top | Part::Client | Part::Home => name == other,
     }
 }
 
 fn text_of_table(value: &Value, key: Key) -> Option<&str>
     ensures { option_map (λ s. s.now) result ≡ text_of key (table_of value.now) }
 {
-    match value.as_table() {
-        Some(doc) => text_at_key(key, doc),
-        None => None,
-    }
+    text_at_key(key, value.as_table()?)
 }
 
 fn text_at_key(key: Key, doc: &Table) -> Option<&str>
     ensures { option_map (λ s. s.now) result ≡ text_of key (table_view doc.now) }
 {
-    match member(key, doc) {
-        Some(value) => value.as_str(),
-        None => None,
-    }
-}
-
-/// For the proof: whether one of these values is a table that has this text at a key.
-fn has_any_text(values: &[Value], key: Key, text: &str) -> bool
-    ensures { result ≡ list_any (λ v. is_text (λ other. bytes_eq other text.now) (text_of key (table_of v))) values.now }
-{
-    values.iter().any(|value| has_text(value, key, text))
-}
-
-/// For the proof: whether one of these values is a table that has this realm's name.
-fn has_any_realm(values: &[Value], name: &str) -> bool
-    ensures { result ≡ list_any (λ v. is_text (λ other. str_eq_ignore_ascii_case other name.now) (text_of Key.Name (table_of v))) values.now }
-{
-    values.iter().any(|value| has_realm(value, name))
+    member(key, doc)?.as_str()
 }
