@@ -1,5 +1,5 @@
 -- The first of all faults of a document is the one at which the walk stops.
-use Rattle.std.proofs.Common.{◌≡◌, ℕ, ◌+◌, Bool, true, false, not, cond, ◌||◌, List, [], ◌∷◌, ◌++◌, length, Option, Some, None, is_some, option_and_then, option_to_list, Result, Ok, Err, refl, sym, ap, subst, ◌∙◌, inl, inr, append_assoc, length-append}
+use Rattle.std.proofs.Common.{◌≡◌, ℕ, ◌+◌, Bool, true, false, not, cond, List, [], ◌∷◌, ◌++◌, length, Option, Some, None, is_some, option_and_then, option_to_list, Result, Ok, Err, refl, sym, ap, subst, ◌∙◌, inl, inr, append_assoc, length-append}
 use Rattle.std.specs.Prelude.{ok_or, find, position}
 use Rattle.std.specs.Result.{result_err}
 use Rattle.std.specs.List.{list_any, position_from}
@@ -13,8 +13,7 @@ use Rattle.std.proofs.lemmas.Iterator.Adapters.{position_from-zero}
 use Rattle.toml.specs.Data.{Data, Members, get_member, as_str}
 use Rattle.rad_config.specs.declared.reading.faults.Part.{Part}
 use Rattle.rad_config.specs.declared.reading.faults.Part.TheVariants as part
-use Rattle.rad_config.specs.declared.reading.faults.Key.{Key}
-use Rattle.rad_config.specs.declared.reading.faults.Key.TheVariants.{Listen, DefaultHome, Linger, Client, Home, Realm, Address, Secret, Name}
+use Rattle.rad_config.specs.declared.reading.faults.Key.TheVariants.{DefaultHome, Home, Address, Secret, Name}
 use Rattle.rad_config.specs.declared.reading.faults.Spot.{Spot}
 use Rattle.rad_config.specs.declared.reading.faults.ConfigFault.{ConfigFault}
 use Rattle.rad_config.specs.declared.reading.faults.ConfigFault.TheVariants.{Missing, WrongType, OutOfRange, DoubleName, UnknownHome, BadAddress}
@@ -23,7 +22,7 @@ use Rattle.rad_config.specs.Printed.{address_text}
 use Rattle.rad_config.specs.Spot.{key_name}
 use Rattle.rad_config.specs.Realm.{or_else, same_name}
 use Rattle.rad_config.specs.Configuration.{ClientEntry, HomeEntry, RealmEntry}
-use Rattle.rad_config.specs.Walk.{◌>>=◌, refuse_if, spot, needed, text_in, text_at, text_that, address_at, endpoint_at, secret_at, is_home_name, home_name_at, is_realm_name, realm_name_at, number_at, text_or_none, optional_text_at, lane_named, limits_at, each, client_in, home_in, realm_in_table, array_of, listen_in, default_home_in, linger_in, clients_in, homes_in, realms_in, default_lane_in, walk}
+use Rattle.rad_config.specs.Walk.{◌>>=◌, refuse_if, spot, needed, text_in, text_at, text_that, address_at, endpoint_at, secret_at, is_home_name, home_name_at, is_realm_name, realm_name_at, text_or_none, optional_text_at, lane_named, limits_at, each, client_in, home_in, realm_in_table, array_of, listen_in, default_home_in, linger_in, clients_in, homes_in, realms_in, default_lane_in, walk}
 use Rattle.rad_config.specs.Faults.{text_of, is_text, is_among, or_if, client_faults, home_faults, is_unknown, realm_faults, table_faults, each_faults, array_faults, tables_or_empty, home_tables, part_faults, top_faults, default_faults, faults_in, first_of}
 use Rattle.rad_config.proofs.Steps.{same_ok, bound, known, kept_by}
 use Rattle.rad_config.proofs.Addresses.{address_only}

@@ -11,14 +11,14 @@ use Rattle.toml.specs.Data.{Members}
 use Rattle.rad_config.specs.declared.limits.LimitNumbers.{LimitNumbers}
 use Rattle.rad_config.specs.declared.limits.LimitFault.{LimitFault}
 use Rattle.rad_config.specs.declared.reading.faults.Part.TheVariants as part
-use Rattle.rad_config.specs.declared.reading.faults.Key.TheVariants.{Listen, DefaultHome, Linger, Client, Home, Realm, Address, Secret, Name}
+use Rattle.rad_config.specs.declared.reading.faults.Key.TheVariants.{DefaultHome, Client, Home, Realm, Address, Secret, Name}
 use Rattle.rad_config.specs.declared.reading.faults.Spot.{Spot}
 use Rattle.rad_config.specs.declared.reading.faults.ConfigFault.TheVariants.{DoubleName, UnknownHome, OutOfRange, Toml}
 use Rattle.rad_config.specs.Configuration.{ClientEntry, HomeEntry, RealmEntry, Configuration}
 use Rattle.rad_config.specs.Limits.{AreInRange, limits_of, first_fault}
 use Rattle.rad_config.specs.Realm.{same_name}
 use Rattle.rad_config.specs.WellFormed.{IsRealmName, IsWellFormed}
-use Rattle.rad_config.specs.Walk.{refuse_if, spot, array_of, listen_in, default_home_in, linger_in, address_at, secret_at, home_name_at, text_that, text_at, has_length, is_realm_name, realm_name_at, endpoint_at, numbers_at, kept_or_fault, limits_at, client_in, home_in, realm_in_table, lane_named, clients_in, homes_in, realms_in, default_lane_in, optional_text_at, number_at, walk, configuration_in}
+use Rattle.rad_config.specs.Walk.{refuse_if, spot, array_of, listen_in, default_home_in, linger_in, address_at, secret_at, home_name_at, text_that, text_at, has_length, is_realm_name, realm_name_at, endpoint_at, numbers_at, kept_or_fault, limits_at, client_in, home_in, realm_in_table, lane_named, clients_in, homes_in, realms_in, default_lane_in, walk, configuration_in}
 use Rattle.toml.specs.Parse.{parse_document}
 use Rattle.rad_config.proofs.Ranges.{in_range}
 use Rattle.rad_config.proofs.Steps.{same_ok, bound, not_refused, known, kept_by}

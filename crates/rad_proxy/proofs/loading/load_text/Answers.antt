@@ -1,4 +1,4 @@
-use Rattle.std.proofs.Common.{arith}
+use Rattle.std.proofs.Common.{inl, arith}
 use Rattle.rad_proxy.proofs.loading.load_text.Goals as goal
 
 pub returns-in-Ok-configuration : goal.returns-in-Ok-configuration
