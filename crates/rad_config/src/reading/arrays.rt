@@ -23,11 +23,7 @@ pub(crate) fn tables_of_part(part: Part, doc: &Table) -> Result<&[Value], Config
 }
 
 #[tactic(auto, unfolding(crate::specs::Walk::some_tables_at))]
-fn some_tables<'t>(
-    most: usize,
-    spot: Spot,
-    doc: &'t Table,
-) -> Result<&'t [Value], ConfigFault>
+fn some_tables<'t>(most: usize, spot: Spot, doc: &'t Table) -> Result<&'t [Value], ConfigFault>
     ensures tables { ReadsTables result (some_tables_at most spot (table_view doc.now)) }
     ensures most { IfOk result (λ values. length values.now ≤ most) }
 {
@@ -39,11 +35,7 @@ fn some_tables<'t>(
 }
 
 #[tactic(auto, unfolding(crate::specs::Walk::any_tables_at))]
-fn any_tables<'t>(
-    most: usize,
-    spot: Spot,
-    doc: &'t Table,
-) -> Result<&'t [Value], ConfigFault>
+fn any_tables<'t>(most: usize, spot: Spot, doc: &'t Table) -> Result<&'t [Value], ConfigFault>
     ensures { ReadsTables result (any_tables_at most spot (table_view doc.now)) }
 {
     match member(spot.key, doc) {
