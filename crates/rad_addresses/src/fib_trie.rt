@@ -1,9 +1,9 @@
 //! The addresses of this machine, as Linux lists them.
 
-ghost use Rattle.std.specs.Prelude.{◌≡◌, ◌<◌, ◌++◌, IfOk, option_map, option_copied};
-ghost use Rattle.rad_realms.specs.Address.{around_first};
+ghost use Rattle.std.specs.Prelude.{◌≡◌, ◌++◌, IfOk, option_copied};
 ghost use Rattle.rad_addresses.specs.FibTrie.{named_in, is_local, local_by, local_addresses};
 
+use rad_config::split_around;
 use rad_realms::read_address;
 use std::alloc::{AllocError, Global};
 
@@ -61,13 +61,4 @@ fn tells_local(line: &str) -> bool
     ensures { result ≡ is_local line.now }
 {
     line.as_bytes().starts_with(b"/32 host LOCAL")
-}
-
-/// For the proof: splits a text around the first delimiter, an ASCII character.
-#[tactic(auto, unfolding(rad_config::specs::Address::around_first))]
-fn split_around(text: &str, delimiter: char) -> Option<(&str, &str)>
-    requires { delimiter < 128 }
-    ensures { option_map (λ parts. (parts.0.now, parts.1.now)) result ≡ around_first delimiter text.now }
-{
-    text.split_once(delimiter)
 }

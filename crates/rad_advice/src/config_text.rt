@@ -4,11 +4,14 @@ ghost use Rattle.std.specs.Prelude.{◌≡◌, Some, IfErr, IfOk, IsUtf8};
 ghost use Rattle.std.specs.Str.Lossy.{utf8_valid_len};
 ghost use Rattle.toml.specs.Parse.{parse_document};
 ghost use Rattle.toml.specs.View.{table_view};
+ghost use Rattle.rad_realms.specs.Gives.{Gives};
+ghost use Rattle.rad_realms.specs.Walk.{configuration_in};
 ghost use Rattle.rad_advice.specs.Place.{place_at};
 ghost use Rattle.rad_advice.specs.Syntax.{IfNoToml, IsPlaceIn, IsToml};
 
 use crate::place::place_of;
 use crate::syntax::SyntaxError;
+use rad_realms::{Config, ConfigFault, read_document};
 use std::alloc::{AllocError, Global};
 use std::marker::Model;
 use toml::Table;
@@ -88,6 +91,19 @@ impl<'t> ConfigText<'t> {
         ensures { result.now ≡ self.now }
     {
         self.text
+    }
+
+    /// Reads the configuration of its document, which is what `read_config` makes of the text.
+    ///
+    /// # Errors
+    ///
+    /// The first fault of the document. `OutOfMemory` may come at any point.
+    #[tactic(auto, unfolding(rad_config::specs::Walk::configuration_in))]
+    pub fn configuration(&self, alloc: Global) -> Result<Config, ConfigFault>
+        ensures { Gives result (configuration_in self.now) }
+    {
+        let _ = &self.text;
+        read_document(alloc, &self.document)
     }
 
     /// Returns its document.

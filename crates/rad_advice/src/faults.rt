@@ -287,7 +287,6 @@ fn find_first(
     }
 }
 
-/// Whether the table of this index has this name at the key of this spot. Realms are compared without case.
 fn has_name(document: &Table, spot: Spot, index: usize, name: &str) -> bool {
     let other = match find_value(document, Spot { index, ..spot }) {
         Some(value) => value.as_str(),

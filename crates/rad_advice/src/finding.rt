@@ -174,7 +174,6 @@ fn find_in_expression<'t>(
     find_in_header(alloc, wanted, passed, double, skip_ws(key))
 }
 
-/// Looks for the key in the key of a header.
 fn find_in_header<'t>(
     alloc: Global,
     wanted: Wanted<'_>,
@@ -242,7 +241,6 @@ impl Passed {
     }
 }
 
-/// Looks for the key in a pair of a key and a value.
 fn find_in_pair<'t>(
     alloc: Global,
     wanted: Wanted<'_>,
@@ -286,7 +284,6 @@ fn pair_of<'t>(wanted: Wanted<'_>, passed: &Passed, parts: &[String], after: &'t
     Pair::Other
 }
 
-/// Whether this is the key of the part's array, at the top.
 fn is_array(wanted: Wanted<'_>, passed: &Passed, parts: &[String]) -> bool {
     wanted.part != Part::Top
         && matches!(passed.section, Section::Top)

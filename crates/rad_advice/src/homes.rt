@@ -118,7 +118,6 @@ pub fn advise_home<'c>(
     })
 }
 
-/// Whether a socket that is bound to `listen` receives a datagram that is sent to this address and port.
 fn is_served(listen: Endpoint, local: &[[u8; 4]], to: Endpoint) -> bool
     ensures { result ≡ comes_to listen local.now to }
 {

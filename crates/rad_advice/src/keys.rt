@@ -5,7 +5,6 @@ ghost use Rattle.rad_advice.specs.Keys.{read_names, is_one_of};
 
 use rad_realms::Part;
 
-/// Returns the names of the keys that are read in the tables of a part.
 pub(crate) fn names_of(part: Part) -> &'static [&'static str]
     ensures { map (λ name. name.now) result.now ≡ read_names part }
 {

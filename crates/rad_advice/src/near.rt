@@ -12,7 +12,6 @@ use strsim::generic_levenshtein;
 /// The most edits that make of a name one that is near it.
 const MOST_EDITS: usize = 2;
 
-/// Whether a name is near that of a key that is read in the tables of a part.
 pub(crate) fn is_near_key(alloc: Global, part: Part, name: &str) -> Result<bool, AllocError>
     ensures { IfOk result (λ near. near ≡ is_near_one_of (read_names part) name.now) }
 {

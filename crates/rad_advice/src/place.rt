@@ -101,7 +101,6 @@ fn count_characters(octets: &[u8]) -> usize
     count
 }
 
-/// Returns the octets after the last line feed, if there is one.
 fn behind_line_feed(octets: &[u8]) -> Option<&[u8]>
     ensures { option_copied result ≡ line_behind octets.now }
 {

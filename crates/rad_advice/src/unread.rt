@@ -174,7 +174,6 @@ fn add_of_values<'t>(
     Ok(())
 }
 
-/// Returns the values of the array at a key, or none if the key is absent or its value is not an array.
 fn values_at<'t>(name: &str, document: &'t Table) -> &'t [Value]
     ensures { items_view result.now ≡ items_at name.now (table_view document.now) }
 {

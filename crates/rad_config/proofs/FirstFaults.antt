@@ -1,5 +1,5 @@
 -- The first of all faults of a document is the one at which the walk stops.
-use Rattle.std.proofs.Common.{◌≡◌, ℕ, ◌+◌, Bool, true, false, not, cond, ◌||◌, List, [], ◌∷◌, ◌++◌, length, Option, Some, None, is_some, option_and_then, option_to_list, Result, Ok, Err, refl, sym, ap, subst, ◌∙◌, inl, inr, append_assoc, length-append}
+use Rattle.std.proofs.Common.{◌≡◌, ℕ, ◌+◌, Bool, true, false, not, cond, List, [], ◌∷◌, ◌++◌, length, Option, Some, None, is_some, option_and_then, option_to_list, Result, Ok, Err, refl, sym, ap, subst, ◌∙◌, inl, inr, append_assoc, length-append}
 use Rattle.std.specs.Prelude.{ok_or, find, position}
 use Rattle.std.specs.Result.{result_err}
 use Rattle.std.specs.List.{list_any, position_from}
@@ -13,8 +13,7 @@ use Rattle.std.proofs.lemmas.Iterator.Adapters.{position_from-zero}
 use Rattle.toml.specs.Data.{Data, Members, get_member, as_str}
 use Rattle.rad_config.specs.declared.reading.faults.Part.{Part}
 use Rattle.rad_config.specs.declared.reading.faults.Part.TheVariants as part
-use Rattle.rad_config.specs.declared.reading.faults.Key.{Key}
-use Rattle.rad_config.specs.declared.reading.faults.Key.TheVariants.{Listen, DefaultHome, Linger, Client, Home, Realm, Address, Secret, Name}
+use Rattle.rad_config.specs.declared.reading.faults.Key.TheVariants.{DefaultHome, Home, Address, Secret, Name}
 use Rattle.rad_config.specs.declared.reading.faults.Spot.{Spot}
 use Rattle.rad_config.specs.declared.reading.faults.ConfigFault.{ConfigFault}
 use Rattle.rad_config.specs.declared.reading.faults.ConfigFault.TheVariants.{Missing, WrongType, OutOfRange, DoubleName, UnknownHome, BadAddress}
@@ -23,8 +22,8 @@ use Rattle.rad_config.specs.Printed.{address_text}
 use Rattle.rad_config.specs.Spot.{key_name}
 use Rattle.rad_config.specs.Realm.{or_else, same_name}
 use Rattle.rad_config.specs.Configuration.{ClientEntry, HomeEntry, RealmEntry}
-use Rattle.rad_config.specs.Walk.{◌>>=◌, refuse_if, spot, needed, text_in, text_at, text_that, address_at, endpoint_at, secret_at, is_home_name, home_name_at, is_realm_name, realm_name_at, number_at, text_or_none, optional_text_at, lane_named, limits_at, each, client_in, home_in, realm_in_table, some_tables_at, any_tables_at, clients_in, homes_in, realms_in, default_lane_in, walk}
-use Rattle.rad_config.specs.Faults.{text_of, is_text, is_among, is_realm_among, or_if, client_faults, home_faults, is_unknown, realm_faults, table_faults, each_faults, array_faults, array_of, tables_or_empty, home_tables, part_faults, top_faults, default_faults, faults_in, first_of}
+use Rattle.rad_config.specs.Walk.{◌>>=◌, refuse_if, spot, needed, text_in, text_at, text_that, address_at, endpoint_at, secret_at, is_home_name, home_name_at, is_realm_name, realm_name_at, text_or_none, optional_text_at, lane_named, limits_at, each, client_in, home_in, realm_in_table, array_of, listen_in, default_home_in, linger_in, clients_in, homes_in, realms_in, default_lane_in, walk}
+use Rattle.rad_config.specs.Faults.{text_of, is_text, is_among, or_if, client_faults, home_faults, is_unknown, realm_faults, table_faults, each_faults, array_faults, tables_or_empty, home_tables, part_faults, top_faults, default_faults, faults_in, first_of}
 use Rattle.rad_config.proofs.Steps.{same_ok, bound, known, kept_by}
 use Rattle.rad_config.proofs.Addresses.{address_only}
 
@@ -156,7 +155,7 @@ module _ {X : Type 0} (read : List X → Members → Result X ConfigFault) (p : 
 -- ---- clients
 
 abbrev KnowsClients : List ClientEntry → List Members → Type 0
-KnowsClients es ts = (text address : List ℕ) → address_in text ≡ Some address → is_among ts Address text ≡ list_any (λ c. bytes_eq c.address address) es
+KnowsClients es ts = (text address : List ℕ) → address_in text ≡ Some address → is_among part.Client ts Address text ≡ list_any (λ c. bytes_eq c.address address) es
 
 same_address : (text other a b : List ℕ) → address_in text ≡ Some a → address_in other ≡ Some b → bytes_eq text other ≡ bytes_eq a b
 same_address text other a b is_a is_b =
@@ -179,7 +178,7 @@ unfolding client_faults client_in
 client_first homes es ts t k =
     let s = spot part.Client (length es) Address in
     let secret = secret_at (spot part.Client (length es) Secret) t in
-    twice (address_at s t) (is_text (is_among ts Address) (text_of Address t)) (λ a. is_some (find (λ c. bytes_eq c.address a) es)) (λ a. secret >>= λ x. Ok (record { address = a; secret = x })) (DoubleName s)
+    twice (address_at s t) (is_text (is_among part.Client ts Address) (text_of Address t)) (λ a. is_some (find (λ c. bytes_eq c.address a) es)) (λ a. secret >>= λ x. Ok (record { address = a; secret = x })) (DoubleName s)
     (option_to_list (result_err secret))
     (λ a e.
     let r = address_text_read s t a e in
@@ -203,7 +202,7 @@ client_keeps es ts t x k e text address is =
 -- ---- home servers
 
 abbrev KnowsHomes : List HomeEntry → List Members → Type 0
-KnowsHomes es ts = (text : List ℕ) → is_among ts Name text ≡ list_any (λ h. bytes_eq h.name text) es
+KnowsHomes es ts = (text : List ℕ) → is_among part.Home ts Name text ≡ list_any (λ h. bytes_eq h.name text) es
 
 home_first : (homes : List Members) (es : List HomeEntry) (ts : List Members) (t : Members) → KnowsHomes es ts → first_of (table_faults part.Home homes (length es) ts t) ≡ result_err (home_in es t)
 unfolding home_faults home_in
@@ -214,7 +213,7 @@ home_first homes es ts t k =
     let limits = limits_at (length es) t in
     let limits_list = option_to_list (result_err limits) in
     let secret_list = option_to_list (result_err secret) in
-    twice (home_name_at s t) (is_text (is_among ts Name) (text_of Name t)) (λ n. is_some (position (λ h. bytes_eq h.name n) es))
+    twice (home_name_at s t) (is_text (is_among part.Home ts Name) (text_of Name t)) (λ n. is_some (position (λ h. bytes_eq h.name n) es))
     (λ n. endpoint >>= λ a. secret >>= λ x. limits >>= λ l. Ok (record { name = n; endpoint = a; secret = x; limits = l })) (DoubleName s)
     (option_to_list (result_err endpoint) ++ (secret_list ++ limits_list))
     (λ n e. (
@@ -244,7 +243,7 @@ home_keeps es ts t x k e text =
 -- ---- realms
 
 abbrev KnowsRealms : List RealmEntry → List Members → Type 0
-KnowsRealms es ts = (text : List ℕ) → is_realm_among ts text ≡ list_any (λ r. same_name r.name text) es
+KnowsRealms es ts = (text : List ℕ) → is_among part.Realm ts Name text ≡ list_any (λ r. same_name r.name text) es
 
 unknown_first : {B : Type 0} (o : Option ℕ) (test : Bool) (fault : ConfigFault) (g : ℕ → B) → test ≡ not (is_some o)
     → first_of (option_to_list (or_if None test fault)) ≡ result_err (ok_or o fault >>= λ lane. Ok (g lane))
@@ -257,13 +256,13 @@ default_of None test fault g e = rw e refl
 default_of (Some lane) test fault g e = rw e refl
 
 module _ (servers : List HomeEntry) (homes : List Members) (known_homes : KnowsHomes servers homes) where
-  is_known : (name : List ℕ) → not (is_among homes Name name) ≡ not (is_some (position (λ h. bytes_eq h.name name) servers))
+  is_known : (name : List ℕ) → not (is_among part.Home homes Name name) ≡ not (is_some (position (λ h. bytes_eq h.name name) servers))
   is_known name = ap not (known_homes name ∙ sym (placed_any (λ h. bytes_eq h.name name) servers))
 
   reference_first : {B : Type 0} (s : Spot) (read : Result (List ℕ) ConfigFault) (text : Option (List ℕ)) (g : ℕ → B) → ((name : List ℕ) → read ≡ Ok name → text ≡ Some name)
       → first_of (option_to_list (or_if (result_err read) (is_unknown homes text) (UnknownHome s))) ≡ result_err (read >>= λ name. lane_named servers s name >>= λ lane. Ok (g lane))
   unfolding lane_named
-  reference_first s (Ok name) text g h = rw (h name refl) (unknown_first (position (λ x. bytes_eq x.name name) servers) (not (is_among homes Name name)) (UnknownHome s) g (is_known name))
+  reference_first s (Ok name) text g h = rw (h name refl) (unknown_first (position (λ x. bytes_eq x.name name) servers) (not (is_among part.Home homes Name name)) (UnknownHome s) g (is_known name))
   reference_first s (Err fault) text g h = refl
 
   realm_first : (es : List RealmEntry) (ts : List Members) (t : Members) → KnowsRealms es ts → first_of (table_faults part.Realm homes (length es) ts t) ≡ result_err (realm_in_table servers es t)
@@ -271,7 +270,7 @@ module _ (servers : List HomeEntry) (homes : List Members) (known_homes : KnowsH
   realm_first es ts t k =
       let s = spot part.Realm (length es) Name in
       let s2 = spot part.Realm (length es) Home in
-      twice (realm_name_at s t) (is_text (is_realm_among ts) (text_of Name t)) (λ n. is_some (find (λ r. same_name r.name n) es))
+      twice (realm_name_at s t) (is_text (is_among part.Realm ts Name) (text_of Name t)) (λ n. is_some (find (λ r. same_name r.name n) es))
       (λ n. text_at s2 t >>= λ home. lane_named servers s2 home >>= λ lane. Ok (record { name = n; lane = lane })) (DoubleName s)
       (option_to_list (or_if (result_err (text_at s2 t)) (is_unknown homes (text_of Home t)) (UnknownHome s2)))
       (λ n e. (
@@ -303,25 +302,24 @@ module _ (servers : List HomeEntry) (homes : List Members) (known_homes : KnowsH
   unfolding lane_named
   default_first s None g = refl
   default_first s (Some name) g =
-      default_of (position (λ h. bytes_eq h.name name) servers) (not (is_among homes Name name)) (UnknownHome (spot part.Top 0 DefaultHome)) g (is_known name)
+      default_of (position (λ h. bytes_eq h.name name) servers) (not (is_among part.Home homes Name name)) (UnknownHome (spot part.Top 0 DefaultHome)) g (is_known name)
 
 -- ---- the whole
 
 homes_are_known : (doc : Members) (servers : List HomeEntry) → homes_in doc ≡ Ok servers → KnowsHomes servers (home_tables doc)
 unfolding homes_in
 homes_are_known doc servers e =
-    let r = some_tables_at 64 (spot part.Top 0 Home) doc in
-    let b = bound r (each home_in []) servers e in
+    let b = bound (array_of part.Home doc) (each home_in []) servers e in
     let tables : home_tables doc ≡ b.0 = ap tables_or_empty b.1 in
     rw tables (all_known home_in part.Home [] KnowsHomes (home_first []) home_keeps [] [] b.0 servers (λ text. refl) b.2)
 
 pub first_of_document : (doc : Members) → first_of (faults_in doc) ≡ result_err (walk doc)
-unfolding faults_in top_faults part_faults default_faults clients_in homes_in realms_in some_tables_at walk
+unfolding faults_in top_faults part_faults default_faults clients_in homes_in realms_in walk
 first_of_document doc =
     let homes = home_tables doc in
-    let listen = endpoint_at (spot part.Top 0 Listen) doc in
-    let default = optional_text_at (spot part.Top 0 DefaultHome) doc in
-    let linger = number_at 0 600000 5000 (spot part.Top 0 Linger) doc in
+    let listen = listen_in doc in
+    let default = default_home_in doc in
+    let linger = linger_in doc in
     let a = option_to_list (result_err listen) in
     let b = option_to_list (result_err default) in
     let c = option_to_list (result_err linger) in

@@ -1,14 +1,20 @@
 -- What a loop over tables keeps, where all faults are listed.
-use Rattle.std.proofs.Common.{◌≡◌, ℕ, ◌+◌, ◌<◌, ◌≤◌, ◌||◌, Bool, List, [], ◌∷◌, ◌++◌, length, get_or, map, take, drop, refl, sym, ap, ◌∙◌, append_assoc, arith}
-use Rattle.std.proofs.lemmas.List.{append-nil, drop_more, take_more, map-append, length-take}
+use Rattle.std.proofs.Common.{◌≡◌, ℕ, ◌+◌, ◌<◌, ◌≤◌, ◌||◌, Bool, List, [], ◌∷◌, ◌++◌, length, get_or, take, drop, Result, Ok, Err, refl, sym, ap, ◌∙◌, append_assoc}
+use Rattle.std.proofs.lemmas.List.{append-nil, drop_more, take_more, map-append}
 use Rattle.std.proofs.Math.ListN.{drop_of_length-le}
 use Rattle.std.specs.List.{list_any}
+use Rattle.std.specs.Result.{result_err}
 use Rattle.toml.specs.Data.{Members}
 use Rattle.toml.specs.declared.value.Value.{Value}
 use Rattle.rad_config.specs.declared.reading.faults.Part.{Part}
 use Rattle.rad_config.specs.declared.reading.faults.ConfigFault.{ConfigFault}
-use Rattle.rad_config.specs.internal.Values.{table_of, tables_of_values}
+use Rattle.rad_config.specs.internal.Values.{table_of, tables_of_values, Reads}
 use Rattle.rad_config.specs.Faults.{table_faults, each_faults}
+
+-- a fault that is told is one of the reading
+pub reads_err : {X Y : Type 0} (seen : X → Y) (r : Result X ConfigFault) (reading : Result Y ConfigFault) → Reads seen r reading → result_err r ≡ result_err reading
+reads_err seen (Ok x) reading e = ap result_err (sym e)
+reads_err seen (Err fault) reading e = ap result_err (sym e)
 
 -- a test of the table of a value
 pub any_of_tables : (p : Members → Bool) (vs : List Value) → list_any (λ v. p (table_of v)) vs ≡ list_any p (tables_of_values vs)

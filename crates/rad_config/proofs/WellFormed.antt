@@ -11,14 +11,14 @@ use Rattle.toml.specs.Data.{Members}
 use Rattle.rad_config.specs.declared.limits.LimitNumbers.{LimitNumbers}
 use Rattle.rad_config.specs.declared.limits.LimitFault.{LimitFault}
 use Rattle.rad_config.specs.declared.reading.faults.Part.TheVariants as part
-use Rattle.rad_config.specs.declared.reading.faults.Key.TheVariants.{Listen, DefaultHome, Linger, Client, Home, Realm, Address, Secret, Name}
+use Rattle.rad_config.specs.declared.reading.faults.Key.TheVariants.{DefaultHome, Client, Home, Realm, Address, Secret, Name}
 use Rattle.rad_config.specs.declared.reading.faults.Spot.{Spot}
 use Rattle.rad_config.specs.declared.reading.faults.ConfigFault.TheVariants.{DoubleName, UnknownHome, OutOfRange, Toml}
 use Rattle.rad_config.specs.Configuration.{ClientEntry, HomeEntry, RealmEntry, Configuration}
 use Rattle.rad_config.specs.Limits.{AreInRange, limits_of, first_fault}
 use Rattle.rad_config.specs.Realm.{same_name}
 use Rattle.rad_config.specs.WellFormed.{IsRealmName, IsWellFormed}
-use Rattle.rad_config.specs.Walk.{refuse_if, spot, some_tables_at, any_tables_at, address_at, secret_at, home_name_at, text_that, text_at, has_length, is_realm_name, realm_name_at, endpoint_at, numbers_at, kept_or_fault, limits_at, client_in, home_in, realm_in_table, lane_named, clients_in, homes_in, realms_in, default_lane_in, optional_text_at, number_at, walk, configuration_in}
+use Rattle.rad_config.specs.Walk.{refuse_if, spot, array_of, listen_in, default_home_in, linger_in, address_at, secret_at, home_name_at, text_that, text_at, has_length, is_realm_name, realm_name_at, endpoint_at, numbers_at, kept_or_fault, limits_at, client_in, home_in, realm_in_table, lane_named, clients_in, homes_in, realms_in, default_lane_in, walk, configuration_in}
 use Rattle.toml.specs.Parse.{parse_document}
 use Rattle.rad_config.proofs.Ranges.{in_range}
 use Rattle.rad_config.proofs.Steps.{same_ok, bound, not_refused, known, kept_by}
@@ -48,7 +48,7 @@ client_apart earlier doc c apart e = all_pairs_push (λ (a b : ClientEntry). a.a
 clients_are : (doc : Members) (clients : List ClientEntry) → clients_in doc ≡ Ok clients → (1 ≤ length clients) × (length clients ≤ 256) × ClientsApart clients
 unfolding clients_in
 clients_are doc clients e =
-    let tables = bound (some_tables_at 256 (spot part.Top 0 Client) doc) _ clients e in
+    let tables = bound (array_of part.Client doc) _ clients e in
     let counted = some_counted 256 (spot part.Top 0 Client) doc tables.0 tables.1 in
     let as_many = each_counts client_in [] tables.0 clients tables.2 in
     (omega (arith, counted.0, as_many), omega (arith, counted.1, as_many), each_keeps client_in ClientsApart client_apart [] tables.0 clients (λ i j d before lt. absurd (omega (arith, lt))) tables.2)
@@ -104,7 +104,7 @@ home_kept earlier doc h kept e =
 homes_are : (doc : Members) (homes : List HomeEntry) → homes_in doc ≡ Ok homes → (1 ≤ length homes) × (length homes ≤ 64) × HomesKept homes
 unfolding homes_in
 homes_are doc homes e =
-    let tables = bound (some_tables_at 64 (spot part.Top 0 Home) doc) _ homes e in
+    let tables = bound (array_of part.Home doc) _ homes e in
     let counted = some_counted 64 (spot part.Top 0 Home) doc tables.0 tables.1 in
     let as_many = each_counts home_in [] tables.0 homes tables.2 in
     let none : HomesKept [] = record { apart = λ i j d before lt. absurd (omega (arith, lt)); limits = All-nil _ } in
@@ -185,7 +185,7 @@ realm_kept homes earlier doc r kept e =
 realms_are : (homes : List HomeEntry) (doc : Members) (realms : List RealmEntry) → realms_in homes doc ≡ Ok realms → (length realms ≤ 256) × RealmsKept homes realms
 unfolding realms_in
 realms_are homes doc realms e =
-    let tables = bound (any_tables_at 256 (spot part.Top 0 Realm) doc) _ realms e in
+    let tables = bound (array_of part.Realm doc) _ realms e in
     let counted = any_counted 256 (spot part.Top 0 Realm) doc tables.0 tables.1 in
     let as_many = each_counts (realm_in_table homes) [] tables.0 realms tables.2 in
     let none : RealmsKept homes [] = record { forms = All-nil _; apart = λ i j d before lt. absurd (omega (arith, lt)); lanes = All-nil _ } in
@@ -209,9 +209,9 @@ pub record IsReadBy (doc : Members) (c : Configuration) : Type 0 where
 parts_of : (doc : Members) (c : Configuration) → walk doc ≡ Ok c → IsReadBy doc c
 unfolding walk
 parts_of doc c e =
-    let listen = bound (endpoint_at (spot part.Top 0 Listen) doc) _ c e in
-    let default_home = bound (optional_text_at (spot part.Top 0 DefaultHome) doc) _ c listen.2 in
-    let linger = bound (number_at 0 600000 5000 (spot part.Top 0 Linger) doc) _ c default_home.2 in
+    let listen = bound (listen_in doc) _ c e in
+    let default_home = bound (default_home_in doc) _ c listen.2 in
+    let linger = bound (linger_in doc) _ c default_home.2 in
     let clients = bound (clients_in doc) _ c linger.2 in
     let homes = bound (homes_in doc) _ c clients.2 in
     let realms = bound (realms_in homes.0 doc) _ c homes.2 in

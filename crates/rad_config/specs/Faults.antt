@@ -8,13 +8,13 @@ use Rattle.toml.specs.Data.{Members, get_member, as_str}
 use Rattle.rad_config.specs.declared.reading.faults.Part.{Part}
 use Rattle.rad_config.specs.declared.reading.faults.Part.TheVariants as part
 use Rattle.rad_config.specs.declared.reading.faults.Key.{Key}
-use Rattle.rad_config.specs.declared.reading.faults.Key.TheVariants.{Listen, DefaultHome, Linger, Client, Home, Realm, Address, Secret, Name}
+use Rattle.rad_config.specs.declared.reading.faults.Key.TheVariants.{DefaultHome, Home, Address, Secret, Name}
 use Rattle.rad_config.specs.declared.reading.faults.Spot.{Spot}
 use Rattle.rad_config.specs.declared.reading.faults.ConfigFault.{ConfigFault}
 use Rattle.rad_config.specs.declared.reading.faults.ConfigFault.TheVariants.{DoubleName, UnknownHome}
 use Rattle.rad_config.specs.Realm.{or_else}
 use Rattle.rad_config.specs.Spot.{key_name}
-use Rattle.rad_config.specs.Walk.{spot, address_at, endpoint_at, secret_at, text_at, optional_text_at, home_name_at, realm_name_at, number_at, limits_at, some_tables_at, any_tables_at}
+use Rattle.rad_config.specs.Walk.{spot, address_at, endpoint_at, secret_at, text_at, home_name_at, realm_name_at, limits_at, array_of, listen_in, default_home_in, linger_in}
 
 -- The text at a key, if there is one.
 abbrev pub text_of : Key → Members → Option (List ℕ)
@@ -24,12 +24,16 @@ text_of key doc = option_and_then as_str (get_member (key_name key) doc)
 abbrev pub is_text : (List ℕ → Bool) → Option (List ℕ) → Bool
 is_text test text = unwrap_or (option_map test text) false
 
--- Whether one of the tables has this text at the key, or this realm's name.
-abbrev pub is_among : List Members → Key → List ℕ → Bool
-is_among tables key text = list_any (λ t. is_text (λ other. bytes_eq other text) (text_of key t)) tables
+-- Whether two texts are one name or address in the tables of a part. Realms are compared without case.
+abbrev pub is_same : Part → List ℕ → List ℕ → Bool
+is_same part.Top a b = bytes_eq a b
+is_same part.Client a b = bytes_eq a b
+is_same part.Home a b = bytes_eq a b
+is_same part.Realm a b = str_eq_ignore_ascii_case a b
 
-abbrev pub is_realm_among : List Members → List ℕ → Bool
-is_realm_among tables text = list_any (λ t. is_text (λ other. str_eq_ignore_ascii_case other text) (text_of Name t)) tables
+-- Whether one of the tables of a part has this text at the key.
+abbrev pub is_among : Part → List Members → Key → List ℕ → Bool
+is_among p tables key text = list_any (λ t. is_text (λ other. is_same p other text) (text_of key t)) tables
 
 -- The fault of a reading; or else this one, if the test says so.
 abbrev pub or_if : Option ConfigFault → Bool → ConfigFault → Option ConfigFault
@@ -37,45 +41,36 @@ or_if fault test other = or_else fault (if test then Some other else None)
 
 -- ---- one table, given its index and the earlier tables of its part
 
-abbrev pub client_address_fault : ℕ → List Members → Members → Option ConfigFault
-client_address_fault index earlier doc =
-    let s = spot part.Client index Address in
-    or_if (result_err (address_at s doc)) (is_text (is_among earlier Address) (text_of Address doc)) (DoubleName s)
+-- The fault of a key that no two tables of a part have with the same text: that of its form, or else DoubleName.
+abbrev pub name_fault : Option ConfigFault → Spot → List Members → Members → Option ConfigFault
+name_fault form s earlier doc = or_if form (is_text (is_among s.part earlier s.key) (text_of s.key doc)) (DoubleName s)
 
 unfoldable pub client_faults : ℕ → List Members → Members → List ConfigFault
 client_faults index earlier doc =
-    option_to_list (client_address_fault index earlier doc)
+    let s = spot part.Client index Address in
+    option_to_list (name_fault (result_err (address_at s doc)) s earlier doc)
     ++ option_to_list (result_err (secret_at (spot part.Client index Secret) doc))
-
-abbrev pub home_name_fault : ℕ → List Members → Members → Option ConfigFault
-home_name_fault index earlier doc =
-    let s = spot part.Home index Name in
-    or_if (result_err (home_name_at s doc)) (is_text (is_among earlier Name) (text_of Name doc)) (DoubleName s)
 
 unfoldable pub home_faults : ℕ → List Members → Members → List ConfigFault
 home_faults index earlier doc =
-    option_to_list (home_name_fault index earlier doc)
+    let s = spot part.Home index Name in
+    option_to_list (name_fault (result_err (home_name_at s doc)) s earlier doc)
     ++ (option_to_list (result_err (endpoint_at (spot part.Home index Address) doc))
     ++ (option_to_list (result_err (secret_at (spot part.Home index Secret) doc))
     ++ option_to_list (result_err (limits_at index doc))))
 
-abbrev pub realm_name_fault : ℕ → List Members → Members → Option ConfigFault
-realm_name_fault index earlier doc =
-    let s = spot part.Realm index Name in
-    or_if (result_err (realm_name_at s doc)) (is_text (is_realm_among earlier) (text_of Name doc)) (DoubleName s)
-
 -- No table of `homes` has the name.
 abbrev pub is_unknown : List Members → Option (List ℕ) → Bool
-is_unknown homes name = is_text (λ text. not (is_among homes Name text)) name
+is_unknown homes name = is_text (λ text. not (is_among part.Home homes Name text)) name
 
-abbrev pub realm_home_fault : List Members → ℕ → Members → Option ConfigFault
-realm_home_fault homes index doc =
-    let s = spot part.Realm index Home in
-    or_if (result_err (text_at s doc)) (is_unknown homes (text_of Home doc)) (UnknownHome s)
+abbrev pub home_fault : Spot → List Members → Members → Option ConfigFault
+home_fault s homes doc = or_if (result_err (text_at s doc)) (is_unknown homes (text_of s.key doc)) (UnknownHome s)
 
 unfoldable pub realm_faults : List Members → ℕ → List Members → Members → List ConfigFault
 realm_faults homes index earlier doc =
-    option_to_list (realm_name_fault index earlier doc) ++ option_to_list (realm_home_fault homes index doc)
+    let s = spot part.Realm index Name in
+    option_to_list (name_fault (result_err (realm_name_at s doc)) s earlier doc)
+    ++ option_to_list (home_fault (spot part.Realm index Home) homes doc)
 
 abbrev pub table_faults : Part → List Members → ℕ → List Members → Members → List ConfigFault
 table_faults part.Top homes index earlier doc = []
@@ -100,13 +95,6 @@ tables_or_empty (Err fault) = []
 
 -- ---- the whole
 
--- The array of a part. The top has none.
-abbrev pub array_of : Part → Members → Result (List Members) ConfigFault
-array_of part.Top doc = Ok []
-array_of part.Client doc = some_tables_at 256 (spot part.Top 0 Client) doc
-array_of part.Home doc = some_tables_at 64 (spot part.Top 0 Home) doc
-array_of part.Realm doc = any_tables_at 256 (spot part.Top 0 Realm) doc
-
 abbrev pub home_tables : Members → List Members
 home_tables doc = tables_or_empty (array_of part.Home doc)
 
@@ -115,9 +103,8 @@ part_faults p doc = array_faults p (home_tables doc) (array_of p doc)
 
 unfoldable pub top_faults : Members → List ConfigFault
 top_faults doc =
-    option_to_list (result_err (endpoint_at (spot part.Top 0 Listen) doc))
-    ++ (option_to_list (result_err (optional_text_at (spot part.Top 0 DefaultHome) doc))
-    ++ option_to_list (result_err (number_at 0 600000 5000 (spot part.Top 0 Linger) doc)))
+    option_to_list (result_err (listen_in doc))
+    ++ (option_to_list (result_err (default_home_in doc)) ++ option_to_list (result_err (linger_in doc)))
 
 unfoldable pub default_faults : Members → List ConfigFault
 default_faults doc =

@@ -152,6 +152,13 @@ tables_or_none most s (Some value) = tables_of most s value
 unfoldable pub any_tables_at : ℕ → Spot → Members → Result (List Members) ConfigFault
 any_tables_at most s doc = tables_or_none most s (get_member (key_name s.key) doc)
 
+-- the tables of a part; the top has none
+abbrev pub array_of : Part → Members → Result (List Members) ConfigFault
+array_of part.Top doc = Ok []
+array_of part.Client doc = some_tables_at 256 (spot part.Top 0 Client) doc
+array_of part.Home doc = some_tables_at 64 (spot part.Top 0 Home) doc
+array_of part.Realm doc = any_tables_at 256 (spot part.Top 0 Realm) doc
+
 -- each table in turn, given the entries of the earlier ones
 unfoldable pub each : {X : Type 0} → (List X → Members → Result X ConfigFault) → List X → List Members → Result (List X) ConfigFault
 each read earlier [] = Ok earlier
@@ -222,16 +229,27 @@ realm_in_table homes earlier doc = do
   lane ← lane_named homes (spot part.Realm (length earlier) Home) home
   Ok (record { name = name; lane = lane })
 
+-- ---- the keys at the top
+
+abbrev pub listen_in : Members → Result Endpoint ConfigFault
+listen_in doc = endpoint_at (spot part.Top 0 Listen) doc
+
+abbrev pub default_home_in : Members → Result (Option (List ℕ)) ConfigFault
+default_home_in doc = optional_text_at (spot part.Top 0 DefaultHome) doc
+
+abbrev pub linger_in : Members → Result ℕ ConfigFault
+linger_in doc = number_at 0 600000 5000 (spot part.Top 0 Linger) doc
+
 -- ---- the whole
 
 unfoldable pub clients_in : Members → Result (List ClientEntry) ConfigFault
-clients_in doc = some_tables_at 256 (spot part.Top 0 Client) doc >>= each client_in []
+clients_in doc = array_of part.Client doc >>= each client_in []
 
 unfoldable pub homes_in : Members → Result (List HomeEntry) ConfigFault
-homes_in doc = some_tables_at 64 (spot part.Top 0 Home) doc >>= each home_in []
+homes_in doc = array_of part.Home doc >>= each home_in []
 
 unfoldable pub realms_in : List HomeEntry → Members → Result (List RealmEntry) ConfigFault
-realms_in homes doc = any_tables_at 256 (spot part.Top 0 Realm) doc >>= each (realm_in_table homes) []
+realms_in homes doc = array_of part.Realm doc >>= each (realm_in_table homes) []
 
 abbrev pub default_lane_in : List HomeEntry → Option (List ℕ) → Result (Option ℕ) ConfigFault
 default_lane_in homes None = Ok None
@@ -239,9 +257,9 @@ default_lane_in homes (Some name) = lane_named homes (spot part.Top 0 DefaultHom
 
 unfoldable pub walk : Members → Result Configuration ConfigFault
 walk doc = do
-  listen ← endpoint_at (spot part.Top 0 Listen) doc
-  default_home ← optional_text_at (spot part.Top 0 DefaultHome) doc
-  linger ← number_at 0 600000 5000 (spot part.Top 0 Linger) doc
+  listen ← listen_in doc
+  default_home ← default_home_in doc
+  linger ← linger_in doc
   clients ← clients_in doc
   homes ← homes_in doc
   realms ← realms_in homes doc

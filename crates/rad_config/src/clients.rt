@@ -100,7 +100,6 @@ impl Clients {
         client_at(self.items.as_slice(), place)
     }
 
-    /// Appends a client with a new address.
     pub(crate) fn push(&mut self, client: Client) -> Result<(), AllocError>
         requires { find (λ c. bytes_eq c.address client.address) self.old ≡ None }
         ensures { OnOk result (self.new ≡ self.old ++ client ∷ []) }

@@ -49,7 +49,6 @@ impl Config {
         self.clients.find(address)
     }
 
-    /// Returns where a realm with this name leads.
     #[tactic(auto, unfolding(crate::specs::Realm::lane_in))]
     fn destination_of_name(&self, name: &[u8]) -> Option<Destination>
         ensures lane { option_map (λ d. d.lane) result ≡ lane_in self.now.realms name.now }

@@ -26,5 +26,6 @@ pub use laws::{
 pub use limits::{DEFAULT_LIMITS, LimitFault, LimitNumbers, Limits};
 pub use reading::{
     AddressText, ConfigFault, Endpoint, Key, Part, Spot, list_faults, read_address, read_config,
+    read_document, read_number, split_around,
 };
 pub use realms::{Destination, Realm, realm_of};

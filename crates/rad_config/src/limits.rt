@@ -147,7 +147,6 @@ impl Limits {
     }
 }
 
-/// Refuses a number that is out of its range.
 fn within(number: u32, least: u32, most: u32, fault: LimitFault) -> Result<(), LimitFault>
     ensures value { result ≡ (if nat_le least number && nat_le number most then Ok tt else Err fault) }
     ensures kept { OnOk result ((least ≤ number) × (number ≤ most)) }

@@ -9,7 +9,7 @@ mod listing;
 mod sections;
 mod walk;
 
-pub use address::{AddressText, Endpoint, read_address};
+pub use address::{AddressText, Endpoint, read_address, read_number, split_around};
 pub use faults::{ConfigFault, Key, Part, Spot};
 pub use listing::list_faults;
-pub use walk::read_config;
+pub use walk::{read_config, read_document};

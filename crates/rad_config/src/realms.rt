@@ -160,14 +160,12 @@ pub fn realm_of(name: &[u8]) -> Option<&[u8]>
     None
 }
 
-/// Returns the number of realms that lead to a lane.
 fn count_of(realms: &[Realm], lane: u16) -> usize
     ensures { result ≡ length (filter (λ r. r.lane == lane) realms.now) }
 {
     realms.iter().filter(|realm| realm.lane() == lane).count()
 }
 
-/// Returns a name with its ASCII letters in lower case.
 fn lower_case(alloc: Global, name: &[u8]) -> Result<Vec<u8>, AllocError>
     ensures { IfOk result (λ v. v.items ≡ map to_ascii_lowercase name.now) }
 {
@@ -176,7 +174,6 @@ fn lower_case(alloc: Global, name: &[u8]) -> Result<Vec<u8>, AllocError>
         .collect(alloc)
 }
 
-/// Writes a name, with its ASCII letters in lower case, to the front of a buffer.
 fn put_lower_case(buffer: &mut [u8], name: &[u8])
     requires { length name.now ≤ length buffer.old }
     ensures { buffer.new ≡ map to_ascii_lowercase name.now ++ drop (length name.now) buffer.old }

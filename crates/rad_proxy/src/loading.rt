@@ -8,7 +8,7 @@ use crate::file_name::FileName;
 use crate::machine::Host;
 use crate::reasons::{tell_doubts, tell_faults, tell_file, tell_homes, tell_text};
 use rad_addresses::read_local_addresses;
-use rad_files::{read_at_most, read_configuration};
+use rad_files::read_at_most;
 use rad_log::Log;
 use rad_realms::Config;
 use std::alloc::Global;
@@ -62,14 +62,17 @@ pub fn load_text<R: Read + Drop, L: Log>(
         Ok(octets) => octets,
         Err(error) => return Err(file_fault(alloc, log, path, &error)),
     };
-    let text = tell_text(alloc, log, octets.as_slice());
-    match read_configuration(alloc, octets.as_slice()) {
+    let text = match tell_text(alloc, log, octets.as_slice()) {
+        Ok(text) => text,
+        Err(fault) => return Err(Fault::Configuration(fault)),
+    };
+    match text.configuration(alloc) {
         Ok(config) => {
-            tell_doubts(alloc, log, text.as_ref(), &config);
+            tell_doubts(alloc, log, &text, &config);
             Ok(config)
         }
         Err(fault) => {
-            tell_faults(alloc, log, text.as_ref());
+            tell_faults(alloc, log, &text);
             Err(Fault::Configuration(fault))
         }
     }

@@ -1,10 +1,10 @@
 //! Why the program ends, and what an operator should know of a configuration: log lines before the line of a fault.
 
-ghost use Rattle.std.specs.Prelude.{◌≡◌, ◌≢◌};
+ghost use Rattle.std.specs.Prelude.{◌≡◌, ◌≢◌, IfOk, IsUtf8};
 
 use rad_advice::{ConfigText, TextFault, advise_homes, fault_reports, list_warnings, unread_keys};
 use rad_log::{Escaped, Log, tell_error, tell_reason, tell_warning, warn_of_reason};
-use rad_realms::Config;
+use rad_realms::{Config, ConfigFault};
 use std::alloc::Global;
 use std::fmt::{self, Display};
 use std::io::{Error, ErrorKind};
@@ -115,17 +115,27 @@ pub fn tell_file<L: Log>(log: &L, path: &str, error: &Error) {
 
 /// Reads octets as the text of a configuration. Logs where they stop being TOML, or which keys are unread. If memory is
 /// refused, it logs nothing.
-pub fn tell_text<'t, L: Log>(alloc: Global, log: &L, octets: &'t [u8]) -> Option<ConfigText<'t>> {
+///
+/// # Errors
+///
+/// `Toml` if they are not UTF-8 or not TOML, `OutOfMemory` if memory is refused.
+pub fn tell_text<'t, L: Log>(
+    alloc: Global,
+    log: &L,
+    octets: &'t [u8],
+) -> Result<ConfigText<'t>, ConfigFault>
+    ensures { IfOk result (λ text. IsUtf8 octets.now × (text ≡ octets.now)) }
+{
     match ConfigText::read(alloc, octets) {
         Ok(text) => {
             tell_keys(alloc, log, &text);
-            Some(text)
+            Ok(text)
         }
         Err(TextFault::NoToml(error)) => {
             tell_reason(log, "no-toml", &error);
-            None
+            Err(ConfigFault::Toml)
         }
-        Err(TextFault::OutOfMemory) => None,
+        Err(TextFault::OutOfMemory) => Err(ConfigFault::OutOfMemory),
     }
 }
 
@@ -140,11 +150,9 @@ fn tell_keys<L: Log>(alloc: Global, log: &L, text: &ConfigText<'_>) {
     tell_more(log, Told::UnreadKeys, keys.more());
 }
 
-/// Logs the faults of a text that is refused, if there is one. If memory is refused, it logs nothing.
-pub fn tell_faults<L: Log>(alloc: Global, log: &L, text: Option<&ConfigText<'_>>) {
-    if let Some(text) = text
-        && let Ok(faults) = fault_reports(alloc, text)
-    {
+/// Logs the faults of a text that is refused. If memory is refused, it logs nothing.
+pub fn tell_faults<L: Log>(alloc: Global, log: &L, text: &ConfigText<'_>) {
+    if let Ok(faults) = fault_reports(alloc, text) {
         for fault in faults.first() {
             tell_reason(log, "configuration-fault", fault);
         }
@@ -152,12 +160,9 @@ pub fn tell_faults<L: Log>(alloc: Global, log: &L, text: Option<&ConfigText<'_>>
     }
 }
 
-/// Logs what is hardly meant in a configuration that was read from this text, if there is one. If memory is refused, it logs
-/// nothing.
-pub fn tell_doubts<L: Log>(alloc: Global, log: &L, text: Option<&ConfigText<'_>>, config: &Config) {
-    if let Some(text) = text
-        && let Ok(warnings) = list_warnings(alloc, config, text)
-    {
+/// Logs what is hardly meant in a configuration that was read from this text. If memory is refused, it logs nothing.
+pub fn tell_doubts<L: Log>(alloc: Global, log: &L, text: &ConfigText<'_>, config: &Config) {
+    if let Ok(warnings) = list_warnings(alloc, config, text) {
         for warning in warnings.first() {
             warn_of_reason(log, warning.doubtful.doubt.event(), warning);
         }

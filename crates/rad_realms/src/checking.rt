@@ -265,7 +265,6 @@ pub fn check_in<'a>(
     }
 }
 
-/// Checks a packet from a client.
 fn check_packet<'a>(
     config: &'a Config,
     client: &'a Client,
@@ -282,7 +281,6 @@ fn check_packet<'a>(
     }
 }
 
-/// Checks an Accounting-Request from a client.
 #[tactic(auto, unfolding(rad_config::specs::Realm::lane_of_packet, rad_config::specs::Realm::realm_of_packet))]
 fn check_accounting<'a>(
     config: &'a Config,
@@ -313,7 +311,6 @@ fn check_accounting<'a>(
     }
 }
 
-/// Checks a Status-Server from a client.
 fn check_status_server<'a>(
     config: &'a Config,
     client: &'a Client,
@@ -341,12 +338,7 @@ pub fn realm_of_packet<'a>(packet: &PacketRef<'a>) -> Option<&'a [u8]>
     realm_of_name(user_name_of(packet))
 }
 
-/// Returns the User-Name of a packet without a Message-Authenticator, if it has one. Looks at each attribute once at
-/// most.
-///
-/// # Errors
-///
-/// If the packet has a Message-Authenticator.
+/// Looks at each attribute once at most.
 fn unsigned_name_of<'a>(packet: &PacketRef<'a>) -> Result<Option<&'a [u8]>, Dropped>
     ensures { MatchResult result
         (λ name. (of_kind 80 (packet_attributes packet.now) ≡ []) × (option_copied name ≡ user_name packet.now))

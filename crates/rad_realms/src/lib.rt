@@ -16,5 +16,5 @@ pub use rad_config::{
     AddressText, Client, Config, ConfigFault, DEFAULT_LIMITS, Destination, Endpoint, Home, Key,
     LimitFault, LimitNumbers, Limits, Part, Realm, Spot, addresses_have_one_text,
     configurations_are_well_formed, endpoints_have_one_text, list_faults, no_fault_in_range,
-    numbers_have_one_text, read_address, read_config, realm_follows_the_last_sign,
+    numbers_have_one_text, read_address, read_config, read_document, realm_follows_the_last_sign,
 };

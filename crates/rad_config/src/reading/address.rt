@@ -62,8 +62,6 @@ pub fn read_address(text: &str) -> Option<[u8; 4]>
     Some([first, second, third, fourth])
 }
 
-/// Reads an IPv4 address and a UDP port from their text: an address, a colon, and a decimal number from 1 to 65535.
-/// Returns `None` for any other text.
 #[tactic(auto, unfolding(crate::specs::Address::endpoint_in))]
 pub(crate) fn read_endpoint(text: &str) -> Option<Endpoint>
     ensures { result ≡ endpoint_in text.now }
@@ -74,7 +72,6 @@ pub(crate) fn read_endpoint(text: &str) -> Option<Endpoint>
     Some(Endpoint { address, port })
 }
 
-/// Reads a text as a number from 0 to 255.
 #[tactic(auto, unfolding(crate::specs::Address::number_in))]
 fn read_octet(text: &str) -> Option<u8>
     ensures { result ≡ number_in 0 255 text.now }
@@ -83,9 +80,9 @@ fn read_octet(text: &str) -> Option<u8>
     Some(number as u8)
 }
 
-/// Reads a text as a decimal number in a range.
+/// Reads a decimal number from `least` to `most`, without leading zeros. Returns `None` for any other text.
 #[tactic(auto, unfolding(crate::specs::Address::number_in))]
-fn read_number(least: u16, most: u16, text: &str) -> Option<u16>
+pub fn read_number(least: u16, most: u16, text: &str) -> Option<u16>
     ensures { result ≡ number_in least most text.now }
 {
     if !is_number_text(text.as_bytes()) {
@@ -97,7 +94,6 @@ fn read_number(least: u16, most: u16, text: &str) -> Option<u16>
     }
 }
 
-/// Whether a text is a decimal number: digits alone, with no leading zero except in `0` itself.
 fn is_number_text(text: &[u8]) -> bool
     ensures { result ≡ is_number text.now }
 {
@@ -107,9 +103,9 @@ fn is_number_text(text: &[u8]) -> bool
     are_digits(text)
 }
 
-/// For the proof: splits a text at the first delimiter, an ASCII character.
+/// Returns the parts of a text before and after the first delimiter, an ASCII character. Returns `None` if it isn't there.
 #[tactic(auto, unfolding(crate::specs::Address::around_first))]
-fn split_around(text: &str, delimiter: char) -> Option<(&str, &str)>
+pub fn split_around(text: &str, delimiter: char) -> Option<(&str, &str)>
     requires { delimiter < 128 }
     ensures { option_map (λ parts. (parts.0.now, parts.1.now)) result ≡ around_first delimiter text.now }
 {

@@ -3,19 +3,27 @@
 ghost use Rattle.std.specs.Prelude.{◌≡◌, ◌≤◌, length, All, IfOk, Some, None, IsTrue, MatchBool, ◌↔◌};
 ghost use Rattle.toml.specs.View.{view, items_view, table_view};
 ghost use Rattle.rad_config.specs.internal.Values.{IsTable, table_of, tables_of_values, ReadsTables};
-ghost use Rattle.rad_config.specs.Walk.{is_empty_array, tables_in, tables_of, some_tables_at, any_tables_at};
+ghost use Rattle.rad_config.specs.Walk.{is_empty_array, tables_in, tables_of, some_tables_at, any_tables_at, array_of};
 
 use super::document::{member, needed_value};
-use super::faults::{ConfigFault, Spot};
+use super::faults::{ConfigFault, Key, Part, Spot};
+use super::sections::spot_of;
 use toml::{Table, Value};
 
-/// Reads an array that needs at least one table.
+pub(crate) fn tables_of_part(part: Part, doc: &Table) -> Result<&[Value], ConfigFault>
+    ensures tables { ReadsTables result (array_of part (table_view doc.now)) }
+    ensures homes { part ≡ Part.Home → IfOk result (λ values. length values.now ≤ 64) }
+{
+    match part {
+        Part::Top => Ok(&[]),
+        Part::Client => some_tables(256, spot_of(Part::Top, 0, Key::Client), doc),
+        Part::Home => some_tables(64, spot_of(Part::Top, 0, Key::Home), doc),
+        Part::Realm => any_tables(256, spot_of(Part::Top, 0, Key::Realm), doc),
+    }
+}
+
 #[tactic(auto, unfolding(crate::specs::Walk::some_tables_at))]
-pub(crate) fn some_tables<'t>(
-    most: usize,
-    spot: Spot,
-    doc: &'t Table,
-) -> Result<&'t [Value], ConfigFault>
+fn some_tables<'t>(most: usize, spot: Spot, doc: &'t Table) -> Result<&'t [Value], ConfigFault>
     ensures tables { ReadsTables result (some_tables_at most spot (table_view doc.now)) }
     ensures most { IfOk result (λ values. length values.now ≤ most) }
 {
@@ -26,13 +34,8 @@ pub(crate) fn some_tables<'t>(
     tables_of_value(most, spot, value)
 }
 
-/// Reads an array that may be absent or empty.
 #[tactic(auto, unfolding(crate::specs::Walk::any_tables_at))]
-pub(crate) fn any_tables<'t>(
-    most: usize,
-    spot: Spot,
-    doc: &'t Table,
-) -> Result<&'t [Value], ConfigFault>
+fn any_tables<'t>(most: usize, spot: Spot, doc: &'t Table) -> Result<&'t [Value], ConfigFault>
     ensures { ReadsTables result (any_tables_at most spot (table_view doc.now)) }
 {
     match member(spot.key, doc) {
@@ -41,7 +44,6 @@ pub(crate) fn any_tables<'t>(
     }
 }
 
-/// Returns a value that is an array of at most `most` tables.
 #[tactic(auto, using(crate::proofs::ArrayTables::length_tables), unfolding(crate::specs::Walk::tables_of))]
 fn tables_of_value(most: usize, spot: Spot, value: &Value) -> Result<&[Value], ConfigFault>
     ensures tables { ReadsTables result (tables_of most spot (view value.now)) }
@@ -59,7 +61,6 @@ fn tables_of_value(most: usize, spot: Spot, value: &Value) -> Result<&[Value], C
     Ok(values.as_slice())
 }
 
-/// Whether the elements of an array are tables.
 fn are_tables(values: &[Value]) -> bool
     ensures { MatchBool result
         (All IsTable values.now × (tables_in (items_view values.now) ≡ Some (tables_of_values values.now)))
@@ -68,7 +69,6 @@ fn are_tables(values: &[Value]) -> bool
     is_each_table(values)
 }
 
-/// Whether a value is an empty array.
 fn is_empty_array_value(value: &Value) -> bool
     ensures { result ≡ is_empty_array (view value.now) }
 {
@@ -78,7 +78,6 @@ fn is_empty_array_value(value: &Value) -> bool
     }
 }
 
-/// Returns a value that is known to be a table.
 pub(crate) fn table(value: &Value) -> &Table
     requires { IsTable value.now }
     ensures { table_view result.now ≡ table_of value.now }

@@ -15,7 +15,6 @@ use crate::realms::LONGEST_REALM;
 use rad_auth::Secret;
 use toml::{Table, Value};
 
-/// Reads a required text.
 #[tactic(auto, unfolding(crate::specs::Walk::text_at))]
 pub(crate) fn text<'t>(spot: Spot, doc: &'t Table) -> Result<&'t str, ConfigFault>
     ensures { Reads (λ s. s.now) result (text_at spot (table_view doc.now)) }
@@ -24,7 +23,6 @@ pub(crate) fn text<'t>(spot: Spot, doc: &'t Table) -> Result<&'t str, ConfigFaul
     text_of_value(spot, value)
 }
 
-/// Reads an optional text.
 #[tactic(auto, unfolding(crate::specs::Walk::optional_text_at))]
 pub(crate) fn optional_text<'t>(spot: Spot, doc: &'t Table) -> Result<Option<&'t str>, ConfigFault>
     ensures { Reads (λ o. option_map (λ s. s.now) o) result (optional_text_at spot (table_view doc.now)) }
@@ -38,7 +36,6 @@ pub(crate) fn optional_text<'t>(spot: Spot, doc: &'t Table) -> Result<Option<&'t
     }
 }
 
-/// Returns a value that is a text.
 #[tactic(auto, unfolding(crate::specs::Walk::text_in))]
 fn text_of_value(spot: Spot, value: &Value) -> Result<&str, ConfigFault>
     ensures { Reads (λ s. s.now) result (text_in spot (view value.now)) }
@@ -49,7 +46,6 @@ fn text_of_value(spot: Spot, value: &Value) -> Result<&str, ConfigFault>
     }
 }
 
-/// Reads a required IPv4 address.
 #[tactic(auto, unfolding(crate::specs::Walk::address_at))]
 pub(crate) fn address(spot: Spot, doc: &Table) -> Result<[u8; 4], ConfigFault>
     ensures { result ≡ address_at spot (table_view doc.now) }
@@ -61,7 +57,6 @@ pub(crate) fn address(spot: Spot, doc: &Table) -> Result<[u8; 4], ConfigFault>
     }
 }
 
-/// Reads a required IPv4 address and UDP port.
 #[tactic(auto, unfolding(crate::specs::Walk::endpoint_at))]
 pub(crate) fn address_and_port(spot: Spot, doc: &Table) -> Result<Endpoint, ConfigFault>
     ensures { result ≡ endpoint_at spot (table_view doc.now) }
@@ -73,7 +68,6 @@ pub(crate) fn address_and_port(spot: Spot, doc: &Table) -> Result<Endpoint, Conf
     }
 }
 
-/// Reads a required secret.
 #[tactic(auto, unfolding(crate::specs::Walk::secret_at, crate::specs::Walk::text_that))]
 pub(crate) fn secret(spot: Spot, doc: &Table) -> Result<Secret, ConfigFault>
     ensures { result ≡ secret_at spot (table_view doc.now) }
@@ -82,7 +76,6 @@ pub(crate) fn secret(spot: Spot, doc: &Table) -> Result<Secret, ConfigFault>
     secret_of_text(spot, text)
 }
 
-/// Makes a secret of a text of 1 to 128 octets.
 fn secret_of_text(spot: Spot, text: &str) -> Result<Secret, ConfigFault>
     ensures { result ≡ (if has_length 1 128 text.now then Ok text.now else Err (OutOfRange spot)) }
 {
@@ -92,7 +85,6 @@ fn secret_of_text(spot: Spot, text: &str) -> Result<Secret, ConfigFault>
     }
 }
 
-/// Reads the required name of a home server.
 #[tactic(auto, unfolding(crate::specs::Walk::home_name_at, crate::specs::Walk::text_that))]
 pub(crate) fn home_name<'t>(spot: Spot, doc: &'t Table) -> Result<&'t str, ConfigFault>
     ensures { Reads (λ s. s.now) result (home_name_at spot (table_view doc.now)) }
@@ -105,7 +97,6 @@ pub(crate) fn home_name<'t>(spot: Spot, doc: &'t Table) -> Result<&'t str, Confi
     }
 }
 
-/// Whether a text may be a home server's name.
 fn is_home_name(text: &[u8]) -> bool
     ensures { result ≡ names_a_home text.now }
 {
@@ -115,21 +106,18 @@ fn is_home_name(text: &[u8]) -> bool
     are_name_octets(text)
 }
 
-/// Whether a home server's name may consist of these octets.
 fn are_name_octets(text: &[u8]) -> bool
     ensures { result ≡ list_all is_octet_of_a_name text.now }
 {
     text.iter().all(|octet| is_name_octet(*octet))
 }
 
-/// Whether a home server's name may contain this octet.
 fn is_name_octet(octet: u8) -> bool
     ensures { result ≡ is_octet_of_a_name octet }
 {
     octet.is_ascii_alphanumeric() || octet == b'-' || octet == b'_' || octet == b'.'
 }
 
-/// Reads the required name of a realm.
 #[tactic(auto, unfolding(crate::specs::Walk::realm_name_at, crate::specs::Walk::text_that))]
 pub(crate) fn realm_name<'t>(spot: Spot, doc: &'t Table) -> Result<&'t str, ConfigFault>
     ensures name { Reads (λ s. s.now) result (realm_name_at spot (table_view doc.now)) }
@@ -143,7 +131,6 @@ pub(crate) fn realm_name<'t>(spot: Spot, doc: &'t Table) -> Result<&'t str, Conf
     }
 }
 
-/// Whether a text may be a realm's name.
 fn is_realm_name(text: &[u8]) -> bool
     ensures { result ≡ names_a_realm text.now }
 {
@@ -153,14 +140,12 @@ fn is_realm_name(text: &[u8]) -> bool
     lacks_at_sign(text)
 }
 
-/// Whether none of the octets is `@`.
 fn lacks_at_sign(text: &[u8]) -> bool
     ensures { result ≡ list_all (λ o. not (o == 64)) text.now }
 {
     text.iter().all(|octet| *octet != b'@')
 }
 
-/// Reads a whole number in a range, or returns the default if the key is absent.
 #[tactic(auto, unfolding(crate::specs::Walk::number_at))]
 pub(crate) fn number(
     least: u32,
@@ -177,7 +162,6 @@ pub(crate) fn number(
     }
 }
 
-/// Returns a value that is a whole number in a range.
 #[tactic(auto, unfolding(crate::specs::Walk::number_in_value))]
 fn number_of_value(least: u32, most: u32, spot: Spot, value: &Value) -> Result<u32, ConfigFault>
     ensures { result ≡ number_in_value least most spot (view value.now) }
@@ -191,7 +175,6 @@ fn number_of_value(least: u32, most: u32, spot: Spot, value: &Value) -> Result<u
     }
 }
 
-/// Finds the value of a required key.
 #[tactic(auto, unfolding(crate::specs::Walk::needed))]
 pub(crate) fn needed_value<'t>(spot: Spot, doc: &'t Table) -> Result<&'t Value, ConfigFault>
     ensures { Reads (λ v. view v.now) result (needed spot (table_view doc.now)) }
@@ -202,7 +185,6 @@ pub(crate) fn needed_value<'t>(spot: Spot, doc: &'t Table) -> Result<&'t Value, 
     }
 }
 
-/// Finds the value of a key.
 pub(crate) fn member<'t>(key: Key, doc: &'t Table) -> Option<&'t Value>
     ensures { option_map (λ v. view v.now) result ≡ get_member (key_name key) (table_view doc.now) }
 {

@@ -1,21 +1,16 @@
 //! Listing all faults of a configuration, where reading it stops at the first.
 
-ghost use Rattle.std.specs.Prelude.{◌≡◌, ◌++◌, [], All, not, option_map, option_to_list, IfOk, OnOk, ◌≤◌, length};
+ghost use Rattle.std.specs.Prelude.{◌≡◌, ◌++◌, [], All, option_map, option_to_list, IfOk, OnOk, length};
 ghost use Rattle.std.specs.List.{list_any};
-ghost use Rattle.std.specs.Result.{result_err};
-ghost use Rattle.std.specs.Str.{bytes_eq, str_eq_ignore_ascii_case};
-ghost use Rattle.toml.specs.View.{view, table_view};
-ghost use Rattle.rad_config.specs.internal.Values.{IsTable, table_of, tables_of_values, ReadsTables};
-ghost use Rattle.rad_config.specs.Walk.{spot};
-ghost use Rattle.rad_config.specs.Walk as walk;
-ghost use Rattle.rad_config.specs.Faults.{text_of, is_text, is_among as stands_among, is_realm_among as realm_stands_among, is_unknown as names_none, or_if, client_address_fault, client_faults, home_name_fault, home_faults, realm_name_fault, realm_home_fault, realm_faults, table_faults, each_faults, array_faults, array_of, home_tables as tables_of_homes, part_faults, top_faults, default_faults, faults_in};
+ghost use Rattle.toml.specs.View.{table_view};
+ghost use Rattle.rad_config.specs.internal.Values.{IsTable, table_of, tables_of_values};
+ghost use Rattle.rad_config.specs.Faults.{text_of, is_text, is_same, is_among as stands_among, is_unknown as names_none, or_if, name_fault, home_fault, client_faults, home_faults, realm_faults, table_faults, each_faults, home_tables as tables_of_homes, part_faults, top_faults, default_faults, faults_in};
 
-use super::arrays::{any_tables, some_tables, table};
-use super::document::{
-    address, address_and_port, home_name, member, number, optional_text, realm_name, secret, text,
-};
+use super::arrays::{table, tables_of_part};
+use super::document::{address, address_and_port, home_name, member, realm_name, secret, text};
 use super::faults::{ConfigFault, Key, Part, Spot};
 use super::sections::{lane_limits, spot_of};
+use super::walk::{default_home, linger, listen};
 use std::alloc::{AllocError, Global};
 use toml::{Table, Value};
 
@@ -33,7 +28,6 @@ pub fn list_faults(alloc: Global, doc: &Table) -> Result<Vec<ConfigFault>, Alloc
     Ok(faults)
 }
 
-/// Appends the faults of a document.
 #[tactic(auto, unfolding(crate::specs::Faults::faults_in))]
 fn add_of_document(faults: &mut Vec<ConfigFault>, doc: &Table) -> Result<(), AllocError>
     ensures { OnOk result (faults.new.items ≡ faults.old.items ++ faults_in (table_view doc.now)) }
@@ -45,29 +39,15 @@ fn add_of_document(faults: &mut Vec<ConfigFault>, doc: &Table) -> Result<(), All
     add_of_default(faults, doc)
 }
 
-/// Appends the faults of the keys at the top that are not arrays, but for a default home server that does not exist.
-#[tactic(auto, unfolding(crate::specs::Faults::top_faults))]
+#[tactic(auto, unfolding(crate::specs::Faults::top_faults), using(crate::proofs::Listing::reads_err))]
 fn add_of_top(faults: &mut Vec<ConfigFault>, doc: &Table) -> Result<(), AllocError>
     ensures { OnOk result (faults.new.items ≡ faults.old.items ++ top_faults (table_view doc.now)) }
 {
-    let listen = address_and_port(spot_of(Part::Top, 0, Key::Listen), doc).err();
-    add_fault(faults, listen)?;
-    add_fault(faults, default_type_fault(doc))?;
-    let linger = number(0, 600_000, 5000, spot_of(Part::Top, 0, Key::Linger), doc).err();
-    add_fault(faults, linger)
+    add_fault(faults, listen(doc).err())?;
+    add_fault(faults, default_home(doc).err())?;
+    add_fault(faults, linger(doc).err())
 }
 
-/// Returns the fault of the default home server's type.
-fn default_type_fault(doc: &Table) -> Option<ConfigFault>
-    ensures { result ≡ result_err (walk.optional_text_at (spot Part.Top 0 Key.DefaultHome) (table_view doc.now)) }
-{
-    match optional_text(spot_of(Part::Top, 0, Key::DefaultHome), doc) {
-        Ok(_) => None,
-        Err(fault) => Some(fault),
-    }
-}
-
-/// Appends the fault of a default home server that does not exist.
 #[tactic(auto, unfolding(crate::specs::Faults::default_faults))]
 fn add_of_default(faults: &mut Vec<ConfigFault>, doc: &Table) -> Result<(), AllocError>
     ensures { OnOk result (faults.new.items ≡ faults.old.items ++ default_faults (table_view doc.now)) }
@@ -77,7 +57,6 @@ fn add_of_default(faults: &mut Vec<ConfigFault>, doc: &Table) -> Result<(), Allo
     add_fault(faults, fault_or(None, unknown, fault))
 }
 
-/// Appends a fault, if there is one.
 fn add_fault(faults: &mut Vec<ConfigFault>, fault: Option<ConfigFault>) -> Result<(), AllocError>
     ensures { OnOk result (faults.new.items ≡ faults.old.items ++ option_to_list fault) }
 {
@@ -87,7 +66,6 @@ fn add_fault(faults: &mut Vec<ConfigFault>, fault: Option<ConfigFault>) -> Resul
     Ok(())
 }
 
-/// Returns a fault; or another if there is none and the test says so.
 fn fault_or(fault: Option<ConfigFault>, test: bool, other: ConfigFault) -> Option<ConfigFault>
     ensures { result ≡ or_if fault test other }
 {
@@ -98,40 +76,25 @@ fn fault_or(fault: Option<ConfigFault>, test: bool, other: ConfigFault) -> Optio
     }
 }
 
-/// Appends the faults of a part: of its array, or of each of its tables.
 #[tactic(auto, unfolding(crate::specs::Faults::part_faults))]
 fn add_of_part(faults: &mut Vec<ConfigFault>, part: Part, doc: &Table) -> Result<(), AllocError>
     ensures { OnOk result (faults.new.items ≡ faults.old.items ++ part_faults part (table_view doc.now)) }
 {
-    match array(part, doc) {
+    match tables_of_part(part, doc) {
         Ok(tables) => add_of_tables(faults, part, home_tables(doc), tables),
         Err(fault) => add_fault(faults, Some(fault)),
     }
 }
 
-/// Returns the tables of a part.
-fn array(part: Part, doc: &Table) -> Result<&[Value], ConfigFault>
-    ensures { ReadsTables result (array_of part (table_view doc.now)) }
-{
-    match part {
-        Part::Top => Ok(&[]),
-        Part::Client => some_tables(256, spot_of(Part::Top, 0, Key::Client), doc),
-        Part::Home => some_tables(64, spot_of(Part::Top, 0, Key::Home), doc),
-        Part::Realm => any_tables(256, spot_of(Part::Top, 0, Key::Realm), doc),
-    }
-}
-
-/// Returns the tables of the home servers, or none if their array has a fault.
 fn home_tables(doc: &Table) -> &[Value]
     ensures { tables_of_values result.now ≡ tables_of_homes (table_view doc.now) }
 {
-    match array(Part::Home, doc) {
+    match tables_of_part(Part::Home, doc) {
         Ok(tables) => tables,
         Err(_) => &[],
     }
 }
 
-/// Appends the faults of the tables of a part.
 fn add_of_tables(
     faults: &mut Vec<ConfigFault>,
     part: Part,
@@ -149,7 +112,6 @@ fn add_of_tables(
     Ok(())
 }
 
-/// Appends the faults of a part's table.
 fn add_of_table(
     faults: &mut Vec<ConfigFault>,
     part: Part,
@@ -169,7 +131,6 @@ fn add_of_table(
     }
 }
 
-/// Appends the faults of a client's table.
 #[tactic(auto, unfolding(crate::specs::Faults::client_faults))]
 fn add_of_client(
     faults: &mut Vec<ConfigFault>,
@@ -179,24 +140,14 @@ fn add_of_client(
     ensures { OnOk result (faults.new.items ≡ faults.old.items ++ client_faults (length earlier.now) (tables_of_values earlier.now) (table_view doc.now)) }
 {
     let index = earlier.len();
-    add_fault(faults, address_fault(earlier, doc))?;
-    add_fault(
-        faults,
-        secret(spot_of(Part::Client, index, Key::Secret), doc).err(),
-    )
+    let at = spot_of(Part::Client, index, Key::Address);
+    let form = address(at, doc).err();
+    let secret = secret(spot_of(Part::Client, index, Key::Secret), doc).err();
+    add_fault(faults, fault_of_name(form, at, earlier, doc))?;
+    add_fault(faults, secret)
 }
 
-/// Returns the fault of a client's address.
-fn address_fault(earlier: &[Value], doc: &Table) -> Option<ConfigFault>
-    ensures { result ≡ client_address_fault (length earlier.now) (tables_of_values earlier.now) (table_view doc.now) }
-{
-    let at = spot_of(Part::Client, earlier.len(), Key::Address);
-    let double = is_earlier(earlier, Key::Address, doc);
-    fault_or(address(at, doc).err(), double, ConfigFault::DoubleName(at))
-}
-
-/// Appends the faults of a home server's table.
-#[tactic(auto, unfolding(crate::specs::Faults::home_faults))]
+#[tactic(auto, unfolding(crate::specs::Faults::home_faults), using(crate::proofs::Listing::reads_err))]
 fn add_of_home(
     faults: &mut Vec<ConfigFault>,
     earlier: &[Value],
@@ -205,35 +156,17 @@ fn add_of_home(
     ensures { OnOk result (faults.new.items ≡ faults.old.items ++ home_faults (length earlier.now) (tables_of_values earlier.now) (table_view doc.now)) }
 {
     let index = earlier.len();
+    let at = spot_of(Part::Home, index, Key::Name);
+    let form = home_name(at, doc).err();
     let endpoint = address_and_port(spot_of(Part::Home, index, Key::Address), doc).err();
     let secret = secret(spot_of(Part::Home, index, Key::Secret), doc).err();
-    add_fault(faults, server_fault(earlier, doc))?;
+    add_fault(faults, fault_of_name(form, at, earlier, doc))?;
     add_fault(faults, endpoint)?;
     add_fault(faults, secret)?;
     add_fault(faults, lane_limits(index, doc).err())
 }
 
-/// Returns the fault of a home server's name.
-fn server_fault(earlier: &[Value], doc: &Table) -> Option<ConfigFault>
-    ensures { result ≡ home_name_fault (length earlier.now) (tables_of_values earlier.now) (table_view doc.now) }
-{
-    let at = spot_of(Part::Home, earlier.len(), Key::Name);
-    let double = is_earlier(earlier, Key::Name, doc);
-    fault_or(form_of_server(at, doc), double, ConfigFault::DoubleName(at))
-}
-
-/// Returns the fault of the form of a home server's name.
-fn form_of_server(at: Spot, doc: &Table) -> Option<ConfigFault>
-    ensures { result ≡ result_err (walk.home_name_at at (table_view doc.now)) }
-{
-    match home_name(at, doc) {
-        Ok(_) => None,
-        Err(fault) => Some(fault),
-    }
-}
-
-/// Appends the faults of a realm's table.
-#[tactic(auto, unfolding(crate::specs::Faults::realm_faults))]
+#[tactic(auto, unfolding(crate::specs::Faults::realm_faults), using(crate::proofs::Listing::reads_err))]
 fn add_of_realm(
     faults: &mut Vec<ConfigFault>,
     homes: &[Value],
@@ -242,139 +175,87 @@ fn add_of_realm(
 ) -> Result<(), AllocError>
     ensures { OnOk result (faults.new.items ≡ faults.old.items ++ realm_faults (tables_of_values homes.now) (length earlier.now) (tables_of_values earlier.now) (table_view doc.now)) }
 {
-    add_fault(faults, realm_fault(earlier, doc))?;
-    add_fault(faults, reference_fault(homes, earlier.len(), doc))
-}
-
-/// Returns the fault of a realm's name.
-fn realm_fault(earlier: &[Value], doc: &Table) -> Option<ConfigFault>
-    ensures { result ≡ realm_name_fault (length earlier.now) (tables_of_values earlier.now) (table_view doc.now) }
-{
-    let at = spot_of(Part::Realm, earlier.len(), Key::Name);
-    let double = match text_at_key(Key::Name, doc) {
-        Some(name) => is_realm_among(earlier, name),
-        None => false,
-    };
-    fault_or(form_of_realm(at, doc), double, ConfigFault::DoubleName(at))
-}
-
-/// Returns the fault of the form of a realm's name.
-fn form_of_realm(at: Spot, doc: &Table) -> Option<ConfigFault>
-    ensures { result ≡ result_err (walk.realm_name_at at (table_view doc.now)) }
-{
-    match realm_name(at, doc) {
-        Ok(_) => None,
-        Err(fault) => Some(fault),
-    }
-}
-
-/// Returns the fault of a realm's home server.
-fn reference_fault(homes: &[Value], index: usize, doc: &Table) -> Option<ConfigFault>
-    ensures { result ≡ realm_home_fault (tables_of_values homes.now) index (table_view doc.now) }
-{
-    let at = spot_of(Part::Realm, index, Key::Home);
-    let unknown = is_unknown(homes, text_at_key(Key::Home, doc));
-    fault_or(
-        form_of_reference(at, doc),
-        unknown,
-        ConfigFault::UnknownHome(at),
+    let index = earlier.len();
+    let at = spot_of(Part::Realm, index, Key::Name);
+    let form = realm_name(at, doc).err();
+    add_fault(faults, fault_of_name(form, at, earlier, doc))?;
+    add_fault(
+        faults,
+        fault_of_home(spot_of(Part::Realm, index, Key::Home), homes, doc),
     )
 }
 
-/// Returns the fault of the form of a realm's home server.
-fn form_of_reference(at: Spot, doc: &Table) -> Option<ConfigFault>
-    ensures { result ≡ result_err (walk.text_at at (table_view doc.now)) }
+#[tactic(auto, using(crate::proofs::Listing::reads_err))]
+fn fault_of_home(at: Spot, homes: &[Value], doc: &Table) -> Option<ConfigFault>
+    ensures { result ≡ home_fault at (tables_of_values homes.now) (table_view doc.now) }
 {
-    match text(at, doc) {
-        Ok(_) => None,
-        Err(fault) => Some(fault),
-    }
+    let unknown = is_unknown(homes, text_at_key(at.key, doc));
+    fault_or(text(at, doc).err(), unknown, ConfigFault::UnknownHome(at))
 }
 
-/// Whether there is a name, and none of these home servers has it.
+fn fault_of_name(
+    form: Option<ConfigFault>,
+    at: Spot,
+    earlier: &[Value],
+    doc: &Table,
+) -> Option<ConfigFault>
+    ensures { result ≡ name_fault form at (tables_of_values earlier.now) (table_view doc.now) }
+{
+    let double = match text_at_key(at.key, doc) {
+        Some(text) => is_among(at.part, earlier, at.key, text),
+        None => false,
+    };
+    fault_or(form, double, ConfigFault::DoubleName(at))
+}
+
 fn is_unknown(homes: &[Value], name: Option<&str>) -> bool
     ensures { result ≡ names_none (tables_of_values homes.now) (option_map (λ s. s.now) name.entry) }
 {
     match name {
-        Some(name) => !is_among(homes, Key::Name, name),
+        Some(name) => !is_among(Part::Home, homes, Key::Name, name),
         None => false,
     }
 }
 
-/// Whether an earlier table has the same text at a key as this one.
-fn is_earlier(earlier: &[Value], key: Key, doc: &Table) -> bool
-    ensures { result ≡ is_text (stands_among (tables_of_values earlier.now) key) (text_of key (table_view doc.now)) }
+fn is_among(part: Part, tables: &[Value], key: Key, text: &str) -> bool
+    ensures { result ≡ stands_among part (tables_of_values tables.now) key text.now }
 {
-    match text_at_key(key, doc) {
-        Some(text) => is_among(earlier, key, text),
-        None => false,
-    }
-}
-
-/// Whether one of the tables has this text at a key.
-fn is_among(tables: &[Value], key: Key, text: &str) -> bool
-    ensures { result ≡ stands_among (tables_of_values tables.now) key text.now }
-{
-    has_any_text(tables, key, text)
-}
-
-/// Whether a table has this text at a key.
-fn has_text(value: &Value, key: Key, text: &str) -> bool
-    ensures { result ≡ is_text (λ other. bytes_eq other text.now) (text_of key (table_of value.now)) }
-{
-    match text_of_table(value, key) {
-        Some(other) => other == text,
-        None => false,
-    }
-}
-
-/// Whether one of the tables has this realm's name.
-fn is_realm_among(tables: &[Value], name: &str) -> bool
-    ensures { result ≡ realm_stands_among (tables_of_values tables.now) name.now }
-{
-    has_any_realm(tables, name)
-}
-
-/// Whether a table has this realm's name.
-fn has_realm(value: &Value, name: &str) -> bool
-    ensures { result ≡ is_text (λ other. str_eq_ignore_ascii_case other name.now) (text_of Key.Name (table_of value.now)) }
-{
-    match text_of_table(value, Key::Name) {
-        Some(other) => other.eq_ignore_ascii_case(name),
-        None => false,
-    }
-}
-
-/// Returns the text at a key of a value that is a table.
-fn text_of_table(value: &Value, key: Key) -> Option<&str>
-    ensures { option_map (λ s. s.now) result ≡ text_of key (table_of value.now) }
-{
-    match value.as_table() {
-        Some(doc) => text_at_key(key, doc),
-        None => None,
-    }
-}
-
-/// Returns the text at a key.
-fn text_at_key(key: Key, doc: &Table) -> Option<&str>
-    ensures { option_map (λ s. s.now) result ≡ text_of key (table_view doc.now) }
-{
-    match member(key, doc) {
-        Some(value) => value.as_str(),
-        None => None,
-    }
+    has_any_text(part, tables, key, text)
 }
 
 /// For the proof: whether one of these values is a table that has this text at a key.
-fn has_any_text(values: &[Value], key: Key, text: &str) -> bool
-    ensures { result ≡ list_any (λ v. is_text (λ other. bytes_eq other text.now) (text_of key (table_of v))) values.now }
+fn has_any_text(part: Part, values: &[Value], key: Key, text: &str) -> bool
+    ensures { result ≡ list_any (λ v. is_text (λ other. is_same part other text.now) (text_of key (table_of v))) values.now }
 {
-    values.iter().any(|value| has_text(value, key, text))
+    values.iter().any(|value| has_text(part, value, key, text))
 }
 
-/// For the proof: whether one of these values is a table that has this realm's name.
-fn has_any_realm(values: &[Value], name: &str) -> bool
-    ensures { result ≡ list_any (λ v. is_text (λ other. str_eq_ignore_ascii_case other name.now) (text_of Key.Name (table_of v))) values.now }
+fn has_text(part: Part, value: &Value, key: Key, text: &str) -> bool
+    ensures { result ≡ is_text (λ other. is_same part other text.now) (text_of key (table_of value.now)) }
 {
-    values.iter().any(|value| has_realm(value, name))
+    match text_of_table(value, key) {
+        Some(other) => is_same(part, other, text),
+        None => false,
+    }
+}
+
+fn is_same(part: Part, name: &str, other: &str) -> bool
+    ensures { result ≡ is_same part name.now other.now }
+{
+    match part {
+        Part::Realm => name.eq_ignore_ascii_case(other),
+        Part::Top | Part::Client | Part::Home => name == other,
+    }
+}
+
+fn text_of_table(value: &Value, key: Key) -> Option<&str>
+    ensures { option_map (λ s. s.now) result ≡ text_of key (table_of value.now) }
+{
+    text_at_key(key, value.as_table()?)
+}
+
+fn text_at_key(key: Key, doc: &Table) -> Option<&str>
+    ensures { option_map (λ s. s.now) result ≡ text_of key (table_view doc.now) }
+{
+    member(key, doc)?.as_str()
 }

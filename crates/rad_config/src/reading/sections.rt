@@ -17,7 +17,6 @@ use crate::realms::{Realm, Realms};
 use std::alloc::Global;
 use toml::{Table, Value};
 
-/// Reads the clients from their tables.
 pub(crate) fn clients_of(alloc: Global, tables: &[Value]) -> Result<Clients, ConfigFault>
     requires { All IsTable tables.now }
     ensures { Gives result (each client_in [] (tables_of_values tables.now)) }
@@ -29,7 +28,6 @@ pub(crate) fn clients_of(alloc: Global, tables: &[Value]) -> Result<Clients, Con
     Ok(clients)
 }
 
-/// Reads a client's table, and appends the client.
 #[tactic(auto, unfolding(crate::specs::Walk::client_in))]
 fn add_client(clients: &mut Clients, value: &Value) -> Result<(), ConfigFault>
     requires { IsTable value.now }
@@ -47,7 +45,6 @@ fn add_client(clients: &mut Clients, value: &Value) -> Result<(), ConfigFault>
     Ok(())
 }
 
-/// Reads the home servers from their tables.
 pub(crate) fn homes_of(alloc: Global, tables: &[Value]) -> Result<Homes, ConfigFault>
     requires tables { All IsTable tables.now }
     requires most { length tables.now ≤ 64 }
@@ -60,7 +57,6 @@ pub(crate) fn homes_of(alloc: Global, tables: &[Value]) -> Result<Homes, ConfigF
     Ok(homes)
 }
 
-/// Reads a home server's table, and appends the home server.
 #[tactic(auto, unfolding(crate::specs::Walk::home_in))]
 fn add_home(alloc: Global, homes: &mut Homes, value: &Value) -> Result<(), ConfigFault>
     requires table { IsTable value.now }
@@ -82,7 +78,6 @@ fn add_home(alloc: Global, homes: &mut Homes, value: &Value) -> Result<(), Confi
     Ok(())
 }
 
-/// Reads the limits of a lane.
 #[tactic(auto, unfolding(crate::specs::Walk::limits_at))]
 pub(crate) fn lane_limits(index: usize, doc: &Table) -> Result<Limits, ConfigFault>
     ensures { result ≡ limits_at index (table_view doc.now) }
@@ -94,7 +89,6 @@ pub(crate) fn lane_limits(index: usize, doc: &Table) -> Result<Limits, ConfigFau
     }
 }
 
-/// Reads the numbers of a lane.
 #[tactic(auto, unfolding(crate::specs::Walk::numbers_at))]
 fn lane_numbers(index: usize, doc: &Table) -> Result<LimitNumbers, ConfigFault>
     ensures { result ≡ numbers_at index (table_view doc.now) }
@@ -130,7 +124,6 @@ fn lane_number(index: usize, key: Key, usual: u32, doc: &Table) -> Result<u32, C
     number(0, u32::MAX, usual, spot_of(Part::Home, index, key), doc)
 }
 
-/// Returns the key of a limit in a home server's table.
 fn key_of_limit(fault: LimitFault) -> Key
     ensures { result ≡ limit_key fault }
 {
@@ -148,7 +141,6 @@ fn key_of_limit(fault: LimitFault) -> Key
     }
 }
 
-/// Reads the realms from their tables.
 pub(crate) fn realms_of(
     alloc: Global,
     homes: &Homes,
@@ -164,7 +156,6 @@ pub(crate) fn realms_of(
     Ok(realms)
 }
 
-/// Reads a realm's table, and appends the realm.
 #[tactic(auto, unfolding(crate::specs::Walk::realm_in_table))]
 fn add_realm(
     alloc: Global,
@@ -190,7 +181,6 @@ fn add_realm(
     Ok(())
 }
 
-/// Finds the lane of the home server with a name.
 #[tactic(auto, unfolding(crate::specs::Walk::lane_named))]
 pub(crate) fn lane_of_home(homes: &Homes, spot: Spot, name: &str) -> Result<u16, ConfigFault>
     ensures { result ≡ lane_named homes.now spot name.now }
@@ -201,7 +191,6 @@ pub(crate) fn lane_of_home(homes: &Homes, spot: Spot, name: &str) -> Result<u16,
     }
 }
 
-/// Returns the place of a key in a table.
 pub(crate) fn spot_of(part: Part, index: usize, key: Key) -> Spot
     ensures { result ≡ spot part index key }
 {

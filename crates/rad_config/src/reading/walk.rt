@@ -3,9 +3,11 @@
 ghost use Rattle.std.specs.Prelude.{◌≡◌, Option, option_map};
 ghost use Rattle.toml.specs.View.{table_view};
 ghost use Rattle.rad_config.specs.Gives.{Gives};
-ghost use Rattle.rad_config.specs.Walk.{clients_in, homes_in, realms_in, default_lane_in, walk, configuration_in};
+ghost use Rattle.rad_config.specs.internal.Values.{Reads};
+ghost use Rattle.rad_config.specs.Walk.{listen_in, default_home_in, linger_in, clients_in, homes_in, realms_in, default_lane_in, walk, configuration_in};
 
-use super::arrays::{any_tables, some_tables};
+use super::address::Endpoint;
+use super::arrays::tables_of_part;
 use super::document::{address_and_port, number, optional_text};
 use super::faults::{ConfigFault, Key, Part};
 use super::sections::{clients_of, homes_of, lane_of_home, realms_of, spot_of};
@@ -36,14 +38,20 @@ pub fn read_config(alloc: Global, text: &str) -> Result<Config, ConfigFault>
     }
 }
 
-/// Reads the configuration from a document.
+/// Reads a configuration from a TOML document, the table that its text is parsed as. So a text that is parsed already
+/// needs no [`read_config`].
+///
+/// # Errors
+///
+/// The first fault of the walk over the document, from the top down. [`ConfigFault::OutOfMemory`] may come at any point
+/// of it.
 #[tactic(auto, unfolding(crate::specs::Walk::walk))]
-fn read_document(alloc: Global, doc: &Table) -> Result<Config, ConfigFault>
+pub fn read_document(alloc: Global, doc: &Table) -> Result<Config, ConfigFault>
     ensures { Gives result (walk (table_view doc.now)) }
 {
-    let listen = address_and_port(spot_of(Part::Top, 0, Key::Listen), doc)?;
-    let default_home = optional_text(spot_of(Part::Top, 0, Key::DefaultHome), doc)?;
-    let linger = number(0, 600_000, 5000, spot_of(Part::Top, 0, Key::Linger), doc)?;
+    let listen = listen(doc)?;
+    let default_home = default_home(doc)?;
+    let linger = linger(doc)?;
     let clients = read_clients(alloc, doc)?;
     let homes = read_homes(alloc, doc)?;
     let realms = read_realms(alloc, &homes, doc)?;
@@ -59,34 +67,45 @@ fn read_document(alloc: Global, doc: &Table) -> Result<Config, ConfigFault>
     Ok(config)
 }
 
-/// Reads the clients, 1 to 256.
+pub(crate) fn listen(doc: &Table) -> Result<Endpoint, ConfigFault>
+    ensures { result ≡ listen_in (table_view doc.now) }
+{
+    address_and_port(spot_of(Part::Top, 0, Key::Listen), doc)
+}
+
+pub(crate) fn default_home(doc: &Table) -> Result<Option<&str>, ConfigFault>
+    ensures { Reads (λ o. option_map (λ s. s.now) o) result (default_home_in (table_view doc.now)) }
+{
+    optional_text(spot_of(Part::Top, 0, Key::DefaultHome), doc)
+}
+
+pub(crate) fn linger(doc: &Table) -> Result<u32, ConfigFault>
+    ensures { result ≡ linger_in (table_view doc.now) }
+{
+    number(0, 600_000, 5000, spot_of(Part::Top, 0, Key::Linger), doc)
+}
+
 #[tactic(auto, unfolding(crate::specs::Walk::clients_in))]
 fn read_clients(alloc: Global, doc: &Table) -> Result<Clients, ConfigFault>
     ensures { Gives result (clients_in (table_view doc.now)) }
 {
-    let tables = some_tables(256, spot_of(Part::Top, 0, Key::Client), doc)?;
-    clients_of(alloc, tables)
+    clients_of(alloc, tables_of_part(Part::Client, doc)?)
 }
 
-/// Reads the home servers, 1 to 64.
 #[tactic(auto, unfolding(crate::specs::Walk::homes_in))]
 fn read_homes(alloc: Global, doc: &Table) -> Result<Homes, ConfigFault>
     ensures { Gives result (homes_in (table_view doc.now)) }
 {
-    let tables = some_tables(64, spot_of(Part::Top, 0, Key::Home), doc)?;
-    homes_of(alloc, tables)
+    homes_of(alloc, tables_of_part(Part::Home, doc)?)
 }
 
-/// Reads the realms, at most 256.
 #[tactic(auto, unfolding(crate::specs::Walk::realms_in))]
 fn read_realms(alloc: Global, homes: &Homes, doc: &Table) -> Result<Realms, ConfigFault>
     ensures { Gives result (realms_in homes.now (table_view doc.now)) }
 {
-    let tables = any_tables(256, spot_of(Part::Top, 0, Key::Realm), doc)?;
-    realms_of(alloc, homes, tables)
+    realms_of(alloc, homes, tables_of_part(Part::Realm, doc)?)
 }
 
-/// Finds the lane of the default home server, if one is named.
 fn default_lane(homes: &Homes, name: Option<&str>) -> Result<Option<u16>, ConfigFault>
     ensures { result ≡ default_lane_in homes.now (option_map (λ s. s.now) name.entry) }
 {

@@ -1,12 +1,10 @@
 //! Ranges of UDP ports: reading them from texts, and which ports a lane may try.
 
-ghost use Rattle.std.specs.Prelude.{◌≡◌, ◌<◌, ◌≤◌, ◌^◌, true, ◌++◌, option_map, option_to_list, MatchOption, IfOk, IfSome, Result};
-ghost use Rattle.std.specs.List.{list_all, list_any};
-ghost use Rattle.std.specs.Char.{is_ascii_digit};
-ghost use Rattle.std.specs.Str.Parse.{digits_value};
-ghost use Rattle.rad_config.specs.Address.{is_number, number_in, around_first};
+ghost use Rattle.std.specs.Prelude.{◌≡◌, ◌<◌, ◌++◌, option_to_list, IfOk, IfSome, Result};
+ghost use Rattle.std.specs.List.{list_any};
 ghost use Rattle.rad_server.specs.Ports.{range_around, pinned_by, range_of_system, reserved_item, reserved_in, holds, is_usual, is_kept, candidate, IsOutside};
 
+use rad_config::{read_number, split_around};
 use std::alloc::{AllocError, Global};
 use std::fmt;
 
@@ -224,51 +222,4 @@ fn read_range(least: u16, sign: char, text: &str) -> Option<PortRange>
     } else {
         None
     }
-}
-
-#[tactic(auto, unfolding(rad_config::specs::Address::number_in))]
-fn read_number(least: u16, most: u16, text: &str) -> Option<u16>
-    ensures { result ≡ number_in least most text.now }
-{
-    if !is_number_text(text.as_bytes()) {
-        return None;
-    }
-    match parse_number(text) {
-        Some(number) if least <= number && number <= most => Some(number),
-        _ => None,
-    }
-}
-
-/// Whether a text is a decimal number: digits alone, with no leading zero except in `0` itself.
-fn is_number_text(text: &[u8]) -> bool
-    ensures { result ≡ is_number text.now }
-{
-    if text.is_empty() || (text.len() > 1 && text[0] == b'0') {
-        return false;
-    }
-    are_digits(text)
-}
-
-/// For the proof: whether all of these octets are digits.
-fn are_digits(text: &[u8]) -> bool
-    ensures { result ≡ list_all is_ascii_digit text.now }
-{
-    text.iter().all(|octet| octet.is_ascii_digit())
-}
-
-/// For the proof: parses digits as a number below 65536.
-fn parse_number(text: &str) -> Option<u16>
-    requires { is_number text.now ≡ true }
-    ensures { MatchOption result (2 ^ 16 ≤ digits_value 10 text.now) (λ number. number ≡ digits_value 10 text.now) }
-{
-    text.parse::<u16>().ok()
-}
-
-/// For the proof: splits a text around the first delimiter, an ASCII character.
-#[tactic(auto, unfolding(rad_config::specs::Address::around_first))]
-fn split_around(text: &str, delimiter: char) -> Option<(&str, &str)>
-    requires { delimiter < 128 }
-    ensures { option_map (λ parts. (parts.0.now, parts.1.now)) result ≡ around_first delimiter text.now }
-{
-    text.split_once(delimiter)
 }

@@ -19,40 +19,40 @@ pub returns-in_err-listen : goal.returns-in_err-listen
 unfolding walk
 returns-in_err-listen c =
     let p = err_from_is_err_and c.from_residual.result c.from_residual.ensures.1 in
-    rw (p.1, p.2) (fails_here _ _ _ (fails_is _ _ (rw c.spot_of.ensures at c.in_err-listen.ensures)))
+    rw (p.1, p.2) (fails_here _ _ _ (fails_is _ _ c.in_err-listen.ensures))
 
 pub returns-in_err-default_home : goal.returns-in_err-default_home
 unfolding walk
 returns-in_err-default_home c =
     let p = err_from_is_err_and c.from_residual-in_err-default_home.result c.from_residual-in_err-default_home.ensures.1 in
-    rw (p.1, p.2) (fails_later _ _ _ _ (sym (rw c.spot_of.ensures at c.in_ok-listen.ensures)) (fails_here _ _ _ (fails_is _ _ (sym (rw c.spot_of-2.ensures at c.in_err-default_home.ensures)))))
+    rw (p.1, p.2) (fails_later _ _ _ _ (sym c.in_ok-listen.ensures) (fails_here _ _ _ (fails_is _ _ (sym c.in_err-default_home.ensures))))
 
 pub returns-in_err-linger : goal.returns-in_err-linger
 unfolding walk
 returns-in_err-linger c =
     let p = err_from_is_err_and c.from_residual-in_err-linger.result c.from_residual-in_err-linger.ensures.1 in
-    rw (p.1, p.2) (fails_later _ _ _ _ (sym (rw c.spot_of.ensures at c.in_ok-listen.ensures)) (fails_later _ _ _ _ (rw c.spot_of-2.ensures at c.in_ok-default_home.ensures) (fails_here _ _ _ (fails_is _ _ (rw c.spot_of-3.ensures at c.in_err-linger.ensures)))))
+    rw (p.1, p.2) (fails_later _ _ _ _ (sym c.in_ok-listen.ensures) (fails_later _ _ _ _ c.in_ok-default_home.ensures (fails_here _ _ _ (fails_is _ _ c.in_err-linger.ensures))))
 
 pub returns-in_err-clients : goal.returns-in_err-clients
 unfolding walk
 returns-in_err-clients c =
     let p = err_from_is_err_and c.from_residual-in_err-clients.result c.from_residual-in_err-clients.ensures.1 in
-    rw (p.1, p.2) (fails_later _ _ _ _ (sym (rw c.spot_of.ensures at c.in_ok-listen.ensures)) (fails_later _ _ _ _ (rw c.spot_of-2.ensures at c.in_ok-default_home.ensures) (fails_later _ _ _ _ (sym (rw c.spot_of-3.ensures at c.in_ok-linger.ensures)) (fails_here _ _ _ c.in_err-clients.ensures))))
+    rw (p.1, p.2) (fails_later _ _ _ _ (sym c.in_ok-listen.ensures) (fails_later _ _ _ _ c.in_ok-default_home.ensures (fails_later _ _ _ _ (sym c.in_ok-linger.ensures) (fails_here _ _ _ c.in_err-clients.ensures))))
 
 pub returns-in_err-homes : goal.returns-in_err-homes
 unfolding walk
 returns-in_err-homes c =
     let p = err_from_is_err_and c.from_residual-in_err-homes.result c.from_residual-in_err-homes.ensures.1 in
-    rw (p.1, p.2) (fails_later _ _ _ _ (sym (rw c.spot_of.ensures at c.in_ok-listen.ensures)) (fails_later _ _ _ _ (rw c.spot_of-2.ensures at c.in_ok-default_home.ensures) (fails_later _ _ _ _ (sym (rw c.spot_of-3.ensures at c.in_ok-linger.ensures)) (fails_later _ _ _ _ c.in_ok-clients.ensures (fails_here _ _ _ c.in_err-homes.ensures)))))
+    rw (p.1, p.2) (fails_later _ _ _ _ (sym c.in_ok-listen.ensures) (fails_later _ _ _ _ c.in_ok-default_home.ensures (fails_later _ _ _ _ (sym c.in_ok-linger.ensures) (fails_later _ _ _ _ c.in_ok-clients.ensures (fails_here _ _ _ c.in_err-homes.ensures)))))
 
 pub returns-in_err-realms : goal.returns-in_err-realms
 unfolding walk
 returns-in_err-realms c =
     let p = err_from_is_err_and c.from_residual-in_err-realms.result c.from_residual-in_err-realms.ensures.1 in
-    rw (p.1, p.2) (fails_later _ _ _ _ (sym (rw c.spot_of.ensures at c.in_ok-listen.ensures)) (fails_later _ _ _ _ (rw c.spot_of-2.ensures at c.in_ok-default_home.ensures) (fails_later _ _ _ _ (sym (rw c.spot_of-3.ensures at c.in_ok-linger.ensures)) (fails_later _ _ _ _ c.in_ok-clients.ensures (fails_later _ _ _ _ c.in_ok-homes.ensures (fails_here _ _ _ c.in_err-realms.ensures))))))
+    rw (p.1, p.2) (fails_later _ _ _ _ (sym c.in_ok-listen.ensures) (fails_later _ _ _ _ c.in_ok-default_home.ensures (fails_later _ _ _ _ (sym c.in_ok-linger.ensures) (fails_later _ _ _ _ c.in_ok-clients.ensures (fails_later _ _ _ _ c.in_ok-homes.ensures (fails_here _ _ _ c.in_err-realms.ensures))))))
 
 pub returns-in_err-default_lane : goal.returns-in_err-default_lane
 unfolding walk
 returns-in_err-default_lane c =
     let p = err_from_is_err_and c.from_residual-in_err-default_lane.result c.from_residual-in_err-default_lane.ensures.1 in
-    rw (p.1, p.2) (fails_later _ _ _ _ (sym (rw c.spot_of.ensures at c.in_ok-listen.ensures)) (fails_later _ _ _ _ (rw c.spot_of-2.ensures at c.in_ok-default_home.ensures) (fails_later _ _ _ _ (sym (rw c.spot_of-3.ensures at c.in_ok-linger.ensures)) (fails_later _ _ _ _ c.in_ok-clients.ensures (fails_later _ _ _ _ c.in_ok-homes.ensures (fails_later _ _ _ _ c.in_ok-realms.ensures (fails_here _ _ _ (fails_is _ _ c.in_err-default_lane.ensures))))))))
+    rw (p.1, p.2) (fails_later _ _ _ _ (sym c.in_ok-listen.ensures) (fails_later _ _ _ _ c.in_ok-default_home.ensures (fails_later _ _ _ _ (sym c.in_ok-linger.ensures) (fails_later _ _ _ _ c.in_ok-clients.ensures (fails_later _ _ _ _ c.in_ok-homes.ensures (fails_later _ _ _ _ c.in_ok-realms.ensures (fails_here _ _ _ (fails_is _ _ c.in_err-default_lane.ensures))))))))
