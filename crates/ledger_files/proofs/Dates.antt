@@ -1,6 +1,6 @@
 -- The day of the calendar, by years that begin on March 1.
 use Rattle.std.proofs.Common.{◌≡◌, ℕ, zero, suc, ◌+◌, ◌-◌, ◌*◌, ◌/◌, ◌%◌, ◌<◌, ◌≤◌, min, ◌⊎◌, ⊎_elim, inl, inr, sym, subst, arith}
-use Rattle.ledger_files.specs.Calendar.{leap_day, days_before_year, IsDateOf}
+use Rattle.ledger_files.specs.Calendar.{leap_day, days_before_year, month_lengths, sum_of_first, number_at, IsDateOf}
 use Rattle.ledger_files.proofs.Orders.{below_or_not}
 use Rattle.ledger_files.proofs.Years.{leap_days_step, days_before, days_before_1970}
 
@@ -66,36 +66,6 @@ abbrev AsLate : ℕ → ℕ → ℕ → ℕ → Type 0
 AsLate days year rest place = place ≡ (5 * rest + 2) / 153
     → IsDateOf days (record { year = year; month = place + 3; day = rest - (153 * place + 2) / 5 + 1 })
 
-late_0 : (days year rest : ℕ) → days_before_year year + leap_day year + rest ≡ days + 719469 → AsLate days year rest 0
-late_0 days year rest h e = record { month = (omega arith, omega arith); day = (omega arith, omega arith); counted = omega (arith, days_before_1970) }
-
-late_1 : (days year rest : ℕ) → days_before_year year + leap_day year + rest ≡ days + 719469 → AsLate days year rest 1
-late_1 days year rest h e = record { month = (omega arith, omega arith); day = (omega arith, omega arith); counted = omega (arith, days_before_1970) }
-
-late_2 : (days year rest : ℕ) → days_before_year year + leap_day year + rest ≡ days + 719469 → AsLate days year rest 2
-late_2 days year rest h e = record { month = (omega arith, omega arith); day = (omega arith, omega arith); counted = omega (arith, days_before_1970) }
-
-late_3 : (days year rest : ℕ) → days_before_year year + leap_day year + rest ≡ days + 719469 → AsLate days year rest 3
-late_3 days year rest h e = record { month = (omega arith, omega arith); day = (omega arith, omega arith); counted = omega (arith, days_before_1970) }
-
-late_4 : (days year rest : ℕ) → days_before_year year + leap_day year + rest ≡ days + 719469 → AsLate days year rest 4
-late_4 days year rest h e = record { month = (omega arith, omega arith); day = (omega arith, omega arith); counted = omega (arith, days_before_1970) }
-
-late_5 : (days year rest : ℕ) → days_before_year year + leap_day year + rest ≡ days + 719469 → AsLate days year rest 5
-late_5 days year rest h e = record { month = (omega arith, omega arith); day = (omega arith, omega arith); counted = omega (arith, days_before_1970) }
-
-late_6 : (days year rest : ℕ) → days_before_year year + leap_day year + rest ≡ days + 719469 → AsLate days year rest 6
-late_6 days year rest h e = record { month = (omega arith, omega arith); day = (omega arith, omega arith); counted = omega (arith, days_before_1970) }
-
-late_7 : (days year rest : ℕ) → days_before_year year + leap_day year + rest ≡ days + 719469 → AsLate days year rest 7
-late_7 days year rest h e = record { month = (omega arith, omega arith); day = (omega arith, omega arith); counted = omega (arith, days_before_1970) }
-
-late_8 : (days year rest : ℕ) → days_before_year year + leap_day year + rest ≡ days + 719469 → AsLate days year rest 8
-late_8 days year rest h e = record { month = (omega arith, omega arith); day = (omega arith, omega arith); counted = omega (arith, days_before_1970) }
-
-late_9 : (days year rest : ℕ) → days_before_year year + leap_day year + rest ≡ days + 719469 → AsLate days year rest 9
-late_9 days year rest h e = record { month = (omega arith, omega arith); day = (omega arith, omega arith); counted = omega (arith, days_before_1970) }
-
 below_ten : (P : ℕ → Type 0) → P 0 → P 1 → P 2 → P 3 → P 4 → P 5 → P 6 → P 7 → P 8 → P 9 → (n : ℕ) → n < 10 → P n
 below_ten P p0 p1 p2 p3 p4 p5 p6 p7 p8 p9 zero l = p0
 below_ten P p0 p1 p2 p3 p4 p5 p6 p7 p8 p9 (suc zero) l = p1
@@ -109,12 +79,22 @@ below_ten P p0 p1 p2 p3 p4 p5 p6 p7 p8 p9 (suc (suc (suc (suc (suc (suc (suc (su
 below_ten P p0 p1 p2 p3 p4 p5 p6 p7 p8 p9 (suc (suc (suc (suc (suc (suc (suc (suc (suc zero))))))))) l = p9
 below_ten P p0 p1 p2 p3 p4 p5 p6 p7 p8 p9 (suc (suc (suc (suc (suc (suc (suc (suc (suc (suc n)))))))))) l = absurd (omega arith)
 
+-- How many days of the year are before the month of a place, and how many it has.
+abbrev HasDays : ℕ → ℕ → Type 0
+HasDays year place =
+    (sum_of_first (place + 3 - 1) (month_lengths year) ≡ (153 * place + 2) / 5 + 59 + leap_day year) × (number_at (place + 3 - 1) (month_lengths year) + (153 * place + 2) / 5 ≡ (153 * place + 155) / 5)
+
+has_days : (year place : ℕ) → place < 10 → HasDays year place
+has_days year =
+    let all : (n : ℕ) → n < 10 → HasDays year n =
+    below_ten (HasDays year) (omega arith, omega arith) (omega arith, omega arith) (omega arith, omega arith) (omega arith, omega arith) (omega arith, omega arith)
+    (omega arith, omega arith) (omega arith, omega arith) (omega arith, omega arith) (omega arith, omega arith) (omega arith, omega arith) in
+    all
+
 pub late : (days year rest place : ℕ) → days_before_year year + leap_day year + rest ≡ days + 719469 → place < 10 → AsLate days year rest place
-late days year rest place h l =
-    below_ten (AsLate days year rest)
-    (late_0 days year rest h) (late_1 days year rest h) (late_2 days year rest h) (late_3 days year rest h) (late_4 days year rest h)
-    (late_5 days year rest h) (late_6 days year rest h) (late_7 days year rest h) (late_8 days year rest h) (late_9 days year rest h)
-    place l
+late days year rest place h l e =
+    let has = has_days year place l in
+    record { month = (omega arith, omega arith); day = (omega arith, omega arith); counted = omega (arith, days_before_1970) }
 
 -- January and February.
 abbrev AsEarly : ℕ → ℕ → ℕ → ℕ → Type 0

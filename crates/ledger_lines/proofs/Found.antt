@@ -1,5 +1,5 @@
 -- What a value shows of what stands at a key of an object.
-use Rattle.std.proofs.Common.{◌≡◌, ℕ, ◌<◌, ◌≤◌, ◌^◌, true, false, List, Option, Some, None, is_some, option_map, MatchOption, IfSome, Ok, ok_or, refl, sym, ap, ◌∙◌, subst, arith}
+use Rattle.std.proofs.Common.{◌≡◌, ℕ, ◌<◌, ◌≤◌, ◌^◌, true, false, List, length, get_or, codes, Option, Some, None, is_some, option_map, MatchOption, IfSome, Ok, ok_or, refl, sym, ap, ◌∙◌, subst, arith}
 use Rattle.std.specs.Prelude.{⊤}
 use Rattle.std.specs.Str.Parse.{IsNumeral, digits_value, without_leading_plus, ParsesUnsigned}
 use Rattle.json.specs.Json.{Json, Items, null, boolean, number, string, array, object}
@@ -132,3 +132,9 @@ module _ (key : List ℕ) (value : Json) where
 
   pub no_octets_text : (fault : LineFault) → Denies fault TextThere → Denies fault OctetsThere
   no_octets_text fault d = denied TextThere OctetsThere (λ p. (p.1.digits, p.1.there)) fault d
+
+-- types of different lengths, or that begin with different letters, are not both there
+pub unlike : (value : Json) (t u : List ℕ) → HasText (codes "type") value t → HasText (codes "type") value u → (length t ≡ length u) × (get_or t 0 0 ≡ get_or u 0 0)
+unlike value t u h i =
+    let same = one_text (codes "type") value t u h i in
+    (ap length same, ap (λ xs. get_or xs 0 0) same)

@@ -2,7 +2,7 @@ use Rattle.std.proofs.Common.{[], ◌∷◌, ◌++◌, take, sym, ap, ◌∙◌}
 use Rattle.std.proofs.lemmas.List.{take_more}
 use Rattle.rad_realms.specs.Configuration.{ClientEntry}
 use Rattle.config_json.specs.Written.{client_value}
-use Rattle.config_json.proofs.Adding.{item_added, items_added}
+use Rattle.json_objects.proofs.Adding.{item_added, items_added}
 use Rattle.config_json.proofs.writing.write_clients.Goals as goal
 
 pub loop-client-preserved : goal.loop-client-preserved

@@ -2,7 +2,7 @@ use Rattle.std.proofs.Common.{[], ◌∷◌, ◌++◌, take, sym, ap, ◌∙◌}
 use Rattle.std.proofs.lemmas.List.{take_more}
 use Rattle.rad_realms.specs.Configuration.{RealmEntry}
 use Rattle.config_json.specs.Written.{realm_value}
-use Rattle.config_json.proofs.Adding.{item_added, items_added}
+use Rattle.json_objects.proofs.Adding.{item_added, items_added}
 use Rattle.config_json.proofs.writing.write_realms.Goals as goal
 
 pub loop-realm-preserved : goal.loop-realm-preserved

@@ -2,7 +2,7 @@ use Rattle.std.proofs.Common.{[], ◌∷◌, ◌++◌, take, sym, ap, ◌∙◌}
 use Rattle.std.proofs.lemmas.List.{take_more}
 use Rattle.ledger_lines.specs.Written.{start_value}
 use Rattle.ledger_lines.specs.declared.lane_start.LaneStart.{LaneStart}
-use Rattle.ledger_lines.proofs.Adding.{item_added, items_added}
+use Rattle.json_objects.proofs.Adding.{item_added, items_added}
 use Rattle.ledger_lines.proofs.begin.lane_starts.Goals as goal
 
 pub loop-lane-preserved : goal.loop-lane-preserved

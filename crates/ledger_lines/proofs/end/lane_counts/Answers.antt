@@ -2,7 +2,7 @@ use Rattle.std.proofs.Common.{None, get_or}
 use Rattle.std.proofs.lemmas.List.{take_more}
 use Rattle.ledger_lines.specs.Written.{count_value}
 use Rattle.ledger_lines.specs.declared.end.LaneCount.{LaneCount}
-use Rattle.ledger_lines.proofs.Adding.{item_added, items_added}
+use Rattle.json_objects.proofs.Adding.{item_added, items_added}
 use Rattle.ledger_lines.proofs.end.lane_counts.Goals as goal
 
 abbrev blank : LaneCount

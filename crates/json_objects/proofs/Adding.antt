@@ -1,15 +1,13 @@
--- What one call after the other adds to the tokens of a writer.
-use Rattle.std.proofs.Common.{◌≡◌, ℕ, ◌+◌, ◌<◌, ◌≤◌, List, [], ◌∷◌, ◌++◌, length, take, Bool, true, false, cond, option_map, Option, Some, None, Result, Ok, Err, refl, sym, ap, ◌∙◌, subst, append_assoc, append-nil}
+-- What one call after the other adds to the tokens of a writer. Proofs of the crates above cite these.
+use Rattle.std.proofs.Common.{◌≡◌, ℕ, ◌+◌, ◌<◌, ◌≤◌, List, [], ◌∷◌, ◌++◌, length, take, Option, Some, None, Result, Ok, Err, refl, sym, ap, ◌∙◌, subst, append_assoc, append-nil}
 use Rattle.std.specs.Prelude.{OnOk}
-use Rattle.std.specs.Str.{IsUtf8, is_utf8}
-use Rattle.std.proofs.lemmas.Str.{IsUtf8-from_is_utf8, is_utf8-from_IsUtf8}
 use Rattle.std.proofs.lemmas.List.{take_all}
-use Rattle.json.specs.Json.{Json, array, string}
+use Rattle.json.specs.Json.{Json, array}
 use Rattle.json.specs.Token.{Token, begin_array, end_array, begin_object, end_object, key}
 use Rattle.json.specs.Tree.{json_tokens, items_tokens, members_tokens}
 use Rattle.json.specs.Written.{Written, Writes}
-use Rattle.config_json.specs.Written.{present, object_of, items_of, number_value}
-use Rattle.config_json.specs.internal.Adding.{Adds, AddsSlots, Opens, slot_tokens, slots_tokens}
+use Rattle.json_objects.specs.Written.{present, object_of, items_of}
+use Rattle.json_objects.specs.Adding.{Adds, AddsSlots, Opens, slot_tokens, slots_tokens}
 
 abbrev pub Slots : Type 0
 Slots = List (List ℕ × Option Json)
