@@ -27,8 +27,8 @@ march_first days cycle century four year rest s =
 whole_year : (year rest : ℕ) → (year < 3 → rest < 365) → year ≤ 3 → rest ≡ 365 → year ≡ 3
 whole_year year rest short most e = ⊎_elim (λ (l : year < 3). let k : rest < 365 = short l in absurd (omega arith)) (λ (l : 3 ≤ year). omega arith) (below_or_not year 3)
 
-whole_century : (century four : ℕ) → (century < 3 → 1461 * four + 1460 < 36524) → century ≤ 3 → four ≤ 24 → (four < 24) ⊎ (century ≡ 3)
-whole_century century four short most fours = ⊎_elim (λ (l : century < 3). let k : 1461 * four + 1460 < 36524 = short l in inl (omega arith)) (λ (l : 3 ≤ century). inr (omega arith)) (below_or_not century 3)
+whole_century : (century four : ℕ) → (century < 3 → 1461 * four + 1460 < 36524) → century ≤ 3 → 24 ≤ four → century ≡ 3
+whole_century century four short most l = ⊎_elim (λ (low : century < 3). let k : 1461 * four + 1460 < 36524 = short low in absurd (omega arith)) (λ (high : 3 ≤ century). omega arith) (below_or_not century 3)
 
 -- Its last day is a leap day.
 pub last_is_leap : (days cycle century four year rest : ℕ) → IsSplit days cycle century four year rest → rest ≡ 365
@@ -46,20 +46,13 @@ last_is_leap days cycle century four year rest s e =
     let next_by_100 : suc n / 100 ≡ 4 * cycle + century = omega arith in
     let next_by_400 : suc n / 400 ≡ cycle = omega arith in
     omega (arith, leap_days_step n))
-    (λ (k : century ≡ 3).
-    ⊎_elim
-    (λ (l : four < 24).
-    let next_by_4 : suc n / 4 ≡ 100 * cycle + 25 * century + four + 1 = omega arith in
-    let next_by_100 : suc n / 100 ≡ 4 * cycle + century = omega arith in
-    let next_by_400 : suc n / 400 ≡ cycle = omega arith in
-    omega (arith, leap_days_step n))
     (λ (l : 24 ≤ four).
-    let next_by_4 : suc n / 4 ≡ 100 * cycle + 100 = omega arith in
-    let next_by_100 : suc n / 100 ≡ 4 * cycle + 4 = omega arith in
-    let next_by_400 : suc n / 400 ≡ cycle + 1 = omega arith in
+    let k : century ≡ 3 = whole_century century four short s.most_centuries l in
+    let next_by_4 : suc n / 4 ≡ 100 * cycle + 100 = omega (arith, s.most_fours) in
+    let next_by_100 : suc n / 100 ≡ 4 * cycle + 4 = omega (arith, s.most_fours) in
+    let next_by_400 : suc n / 400 ≡ cycle + 1 = omega (arith, s.most_fours) in
     omega (arith, leap_days_step n))
-    (below_or_not four 24))
-    (whole_century century four short s.most_centuries s.most_fours)
+    (below_or_not four 24)
 
 -- From March to December.
 abbrev AsLate : ℕ → ℕ → ℕ → ℕ → Type 0
@@ -118,6 +111,10 @@ early days year rest place h most leap l e = ⊎_elim
     (λ (k : place ≡ 10). subst (AsEarly days year rest) (sym k) (early_10 days year rest h) e)
     (λ (k : place ≡ 11). subst (AsEarly days year rest) (sym k) (early_11 days year rest h (february rest (leap_day year) most leap)) e)
     (ten_or_eleven place rest l most e)
+
+-- The year that began on March 1, of what the divisions give.
+abbrev pub year_from_march : ℕ → ℕ → ℕ → ℕ
+year_from_march days century year = 400 * (days / 146097) + 100 * century + 4 * ((days % 146097 - century * 36524) / 1461) + year
 
 -- What the divisions give is a split.
 pub split : (days century year : ℕ) → let in_cycle = days % 146097 in century ≡ min (in_cycle / 36524) 3 → let in_century = in_cycle - century * 36524 in year ≡ min (in_century % 1461 / 365) 3

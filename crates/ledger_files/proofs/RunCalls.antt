@@ -30,8 +30,8 @@ same_start : (old new : Batch) (held : List (List ℕ)) → HoldsLines old held 
 same_start old new held o n w = n.start ∙ ap (λ (k : ℕ). length (concat (take k held))) w ∙ sym o.start
 
 module _ (old new : Batch) (left : List (List ℕ)) (written : ℕ) where
-  left_kept : Keeps old new → new.done ≡ old.done → new.whole ≡ old.whole → IsLeft old left written → IsLeft new left written
-  left_kept keeps d w h =
+  left_written : (now : ℕ) → Keeps old new → old.done + now ≡ new.done + written → new.whole ≡ old.whole → IsLeft old left written → IsLeft new left now
+  left_written now keeps sum w h =
       let start : new.start ≡ old.start = same_start old new h.held h.batch_is (keeps h.held h.batch_is) w in
       record {
         held = h.held;
@@ -40,25 +40,11 @@ module _ (old new : Batch) (left : List (List ℕ)) (written : ℕ) where
         written_is = omega (arith, h.written_is);
       }
 
-  left_written : (now : ℕ) → Keeps old new → old.done ≤ new.done → old.done + now ≡ new.done + written → new.whole ≡ old.whole → IsLeft old left written → IsLeft new left now
-  left_written now keeps l sum w h =
-      let start : new.start ≡ old.start = same_start old new h.held h.batch_is (keeps h.held h.batch_is) w in
-      record {
-        held = h.held;
-        batch_is = keeps h.held h.batch_is;
-        left_is = h.left_is ∙ ap (λ (k : ℕ). drop k h.held) (sym w);
-        written_is = omega (arith, h.written_is);
-      }
+  left_kept : Keeps old new → new.done ≡ old.done → new.whole ≡ old.whole → IsLeft old left written → IsLeft new left written
+  left_kept keeps d w h = left_written written keeps (omega arith) w h
 
   left_again : Keeps old new → new.done ≡ old.start → new.whole ≡ old.whole → IsLeft old left written → IsLeft new left 0
-  left_again keeps d w h =
-      let start : new.start ≡ old.start = same_start old new h.held h.batch_is (keeps h.held h.batch_is) w in
-      record {
-        held = h.held;
-        batch_is = keeps h.held h.batch_is;
-        left_is = h.left_is ∙ ap (λ (k : ℕ). drop k h.held) (sym w);
-        written_is = omega arith;
-      }
+  left_again keeps d w h = left_written 0 keeps (omega (arith, h.written_is)) w h
 
   left_added : (line : List ℕ) → ((held : List (List ℕ)) → HoldsLines old held → HoldsLines new (held ++ line ∷ [])) → new.done ≡ old.done → new.whole ≡ old.whole
       → IsLeft old left written → IsLeft new (left ++ line ∷ []) written
@@ -341,7 +327,7 @@ entries_wrote (Some fs) after first old new last sum lines opens t e keeps l fit
     let to : List File = with_octets fs (slice_range (concat h.left) h.written now) in
     let range : slice_range old.octets.items old.done new.done ≡ slice_range (concat h.left) h.written now =
     same_range old new h.left h.written now (omega (arith, h.batch_is.written_is)) h.batch_is in
-    let new_left : IsLeft new h.left now = left_written old new h.left h.written now keeps l (omega arith) w h.batch_is in
+    let new_left : IsLeft new h.left now = left_written old new h.left h.written now keeps (omega arith) w h.batch_is in
     let all : first.done ≡ length first.octets.items = first_is_done fs h.run_is.parts (begun_of first) h.left h.written (begun_of last) opens h.run_is.open_is t in
     let is : IsRunOf to first new last sum lines = record {
       left = h.left;

@@ -13,8 +13,7 @@ returns-in_err-begun-clause-run g c = λ lines h.
 pub returns-in_err-write-clause-run : goal.returns-in_err-write-clause-run
 returns-in_err-write-clause-run g c = λ lines h.
     let run = c.args.self.now in
-    let wrote = c.write-begun.new.self in
-    both_written (g.D.LedgerDisk.files run.disk) (g.D.LedgerDisk.files c.write-begun.new.disk) run.first wrote c.pass.new.self run.batch run.last run.chain.sum c.pass.new.chain.sum lines (g.D.LedgerDisk.files c.write.new.disk) c.write.new.self
+    both_written (g.D.LedgerDisk.files run.disk) (g.D.LedgerDisk.files c.write-begun.new.disk) run.first c.write-begun.new.self c.pass.new.self run.batch run.last run.chain.sum c.pass.new.chain.sum lines (g.D.LedgerDisk.files c.write.new.disk) c.write.new.self
     (is_open (g.D.LedgerDisk.files run.disk) c.is_open.result c.is_open.ensures c.if-not-is_open.false) c.write-begun.ensures.written.1 (ap (λ v. v.items) c.write-begun.ensures.octets.0) c.write-begun.ensures.octets.1 c.write-begun.ensures.written.0
     (omega (arith, c.in_ok-begun.ensures.all, run.first.octets.ok.0)) c.pass.ensures.passes (λ its s. c.pass.ensures.chain its s) c.write.ensures.written.1 (λ held k. c.write.ensures.lines held k) c.write.ensures.written.0
     (omega (arith, c.write.new.self.written.1, c.write.new.self.octets.ok.0)) c.write.ensures.whole h
@@ -22,8 +21,7 @@ returns-in_err-write-clause-run g c = λ lines h.
 pub returns-clause-run : goal.returns-clause-run
 returns-clause-run g c = λ lines h.
     let run = c.args.self.now in
-    let wrote = c.write-begun.new.self in
-    both_written (g.D.LedgerDisk.files run.disk) (g.D.LedgerDisk.files c.write-begun.new.disk) run.first wrote c.pass.new.self run.batch run.last run.chain.sum c.pass.new.chain.sum lines (g.D.LedgerDisk.files c.write.new.disk) c.write.new.self
+    both_written (g.D.LedgerDisk.files run.disk) (g.D.LedgerDisk.files c.write-begun.new.disk) run.first c.write-begun.new.self c.pass.new.self run.batch run.last run.chain.sum c.pass.new.chain.sum lines (g.D.LedgerDisk.files c.write.new.disk) c.write.new.self
     (is_open (g.D.LedgerDisk.files run.disk) c.is_open.result c.is_open.ensures c.if-not-is_open.false) c.write-begun.ensures.written.1 (ap (λ v. v.items) c.write-begun.ensures.octets.0) c.write-begun.ensures.octets.1 c.write-begun.ensures.written.0
     (omega (arith, c.in_ok-begun.ensures.all, run.first.octets.ok.0)) c.pass.ensures.passes (λ its s. c.pass.ensures.chain its s) c.write.ensures.written.1 (λ held k. c.write.ensures.lines held k) c.write.ensures.written.0
     (omega (arith, c.write.new.self.written.1, c.write.new.self.octets.ok.0)) c.write.ensures.whole h
