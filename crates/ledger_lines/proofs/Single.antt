@@ -1,5 +1,5 @@
 -- A value is one line at most, and so are octets.
-use Rattle.std.proofs.Common.{◌≡◌, ℕ, ◌^◌, List, [], ◌∷◌, get_or, codes, length, Option, Some, None, Result, Ok, Err, inl, inr, refl, sym, ap, ◌∙◌, subst, arith}
+use Rattle.std.proofs.Common.{◌≡◌, ℕ, ◌^◌, List, [], ◌∷◌, codes, length, Option, Some, None, Result, Ok, Err, inl, inr, refl, sym, ap, ◌∙◌, subst, arith}
 use Rattle.std.specs.Prelude.{option_copied}
 use Rattle.std.specs.List.{AllZip, each_same}
 use Rattle.std.specs.Int.{w64, from_be_bytes}
@@ -19,7 +19,7 @@ use Rattle.ledger_lines.specs.declared.faults.LineFault.{LineFault}
 use Rattle.ledger_lines.specs.declared.faults.LineFault.TheVariants.{NotALine, OutOfMemory}
 use Rattle.ledger_lines.specs.declared.reading.Line.{Line}
 use Rattle.ledger_lines.specs.declared.reading.Line.TheVariants.{Begin as begins, Entry as enters, Left as leaves, End as ends, Hidden as hides}
-use Rattle.ledger_lines.specs.Lines.{AreEach, HasArray, HasClient, HasLanes, HasOctets, HasRun, HasState, HasText, HasTime, IsAbout, IsBegin, IsEnd, IsEntry, IsFileBefore, IsLaneCount, IsLaneStart, IsLeft, IsLine, IsLineOf, MayHaveFile, MayHaveNumber, MayHaveSum, MayHaveTime, MayHaveWords, as_items, state_text}
+use Rattle.ledger_lines.specs.Lines.{AreEach, HasArray, HasClient, HasLanes, HasOctets, HasRun, HasState, HasTime, IsAbout, IsBegin, IsEnd, IsEntry, IsFileBefore, IsLaneCount, IsLaneStart, IsLeft, IsLine, IsLineOf, MayHaveFile, MayHaveNumber, MayHaveSum, MayHaveTime, MayHaveWords, as_items, state_text}
 use Rattle.ledger_lines.specs.Same.{GivesBack, IsAnswer, IsSameBegin, IsSameEnd, IsSameEntry, IsSameFile, IsSameFileIfAny, IsSameLeft, IsSameLine, IsSameRequest, IsSameStart}
 use Rattle.ledger_lines.proofs.Found.{one_number, one_text, same_some, unlike}
 

@@ -1,4 +1,4 @@
-use Rattle.ledger_lines.proofs.Lines.{has_others, part}
+use Rattle.ledger_lines.proofs.Lines.{part}
 use Rattle.ledger_lines.proofs.begin.begin_of.Goals as goal
 
 pub returns-in_err-run : goal.returns-in_err-run
@@ -21,19 +21,3 @@ returns-in_err-before c = part _ _ _ c.from_residual-in_err-before.result c.in_e
 
 pub returns-in_err-lanes : goal.returns-in_err-lanes
 returns-in_err-lanes c = part _ _ _ c.from_residual-in_err-lanes.result c.in_err-lanes.field-0.0 c.from_residual-in_err-lanes.ensures.1 c.in_err-lanes.ensures (λ p. (p.0.lanes.items, p.1.lanes))
-
-pub returns-then-not-has_only : goal.returns-then-not-has_only
-returns-then-not-has_only c = λ p. has_others c.has_only.result _ c.has_only.ensures c.if-not-has_only.true p.1.no_other
-
-pub returns : goal.returns
-returns c = record {
-  no_other = c.has_only.ensures.0 c.if-not-has_only.false;
-  type_is = c.requires;
-  run = c.in_ok-run.ensures;
-  time = c.in_ok-time.ensures;
-  version = c.in_ok-version.ensures;
-  file = c.in_ok-file.ensures;
-  sum = c.in_ok-sum.ensures;
-  before = c.in_ok-before.ensures;
-  lanes = c.in_ok-lanes.ensures;
-}

@@ -1,4 +1,4 @@
-use Rattle.ledger_lines.proofs.Lines.{has_others, part}
+use Rattle.ledger_lines.proofs.Lines.{part}
 use Rattle.ledger_lines.proofs.entry.entry_of.Goals as goal
 
 pub returns-in_err-about : goal.returns-in_err-about
@@ -15,17 +15,3 @@ returns-in_err-reply c = part _ _ _ c.from_residual-in_err-reply.result c.in_err
 
 pub returns-in_err-response : goal.returns-in_err-response
 returns-in_err-response c = part _ _ _ c.from_residual-in_err-response.result c.in_err-response.field-0.0 c.from_residual-in_err-response.ensures.1 c.in_err-response.ensures (λ p. (p.0.response.now, p.1.response))
-
-pub returns-then-not-has_only : goal.returns-then-not-has_only
-returns-then-not-has_only c = λ p. has_others c.has_only.result _ c.has_only.ensures c.if-not-has_only.true p.1.no_other
-
-pub returns : goal.returns
-returns c = record {
-  no_other = c.has_only.ensures.0 c.if-not-has_only.false;
-  type_is = c.requires;
-  about = c.in_ok-about.ensures;
-  serial = c.in_ok-serial.ensures;
-  sent = c.in_ok-sent.ensures;
-  reply = c.in_ok-reply.ensures;
-  response = c.in_ok-response.ensures;
-}

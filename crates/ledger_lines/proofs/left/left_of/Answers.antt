@@ -1,5 +1,5 @@
 use Rattle.std.specs.Prelude.{option_copied}
-use Rattle.ledger_lines.proofs.Lines.{has_others, part}
+use Rattle.ledger_lines.proofs.Lines.{part}
 use Rattle.ledger_lines.proofs.left.left_of.Goals as goal
 
 pub returns-in_err-about : goal.returns-in_err-about
@@ -16,17 +16,3 @@ returns-in_err-accepted c = part _ _ _ c.from_residual-in_err-accepted.result c.
 
 pub returns-in_err-request : goal.returns-in_err-request
 returns-in_err-request c = part _ _ _ c.from_residual-in_err-request.result c.in_err-request.field-0.0 c.from_residual-in_err-request.ensures.1 c.in_err-request.ensures (λ p. (p.0.request.now, p.1.request))
-
-pub returns-then-not-has_only : goal.returns-then-not-has_only
-returns-then-not-has_only c = λ p. has_others c.has_only.result _ c.has_only.ensures c.if-not-has_only.true p.1.no_other
-
-pub returns : goal.returns
-returns c = record {
-  no_other = c.has_only.ensures.0 c.if-not-has_only.false;
-  type_is = c.requires;
-  about = c.in_ok-about.ensures;
-  state = c.in_ok-state.ensures;
-  sendings = c.in_ok-sendings.ensures;
-  accepted = c.in_ok-accepted.ensures;
-  request = c.in_ok-request.ensures;
-}
