@@ -1,27 +1,12 @@
 -- The value of a configuration nests no deeper than a reader reads, and has no key twice.
-use Rattle.std.proofs.Common.{ℕ, ◌+◌, ◌≤◌, Bool, true, false, cond, List, [], ◌∷◌, Option, Some, None, option_map, refl, arith}
+use Rattle.std.proofs.Common.{ℕ, ◌≤◌, Bool, true, false, cond, List, Option, Some, None, option_map, refl, arith}
 use Rattle.std.specs.Prelude.{⊤}
 use Rattle.std.specs.List.{slice_get}
 use Rattle.std.specs.Str.{is_utf8}
-use Rattle.json.specs.Json.{Json, array, string}
-use Rattle.json.specs.Strict.{ItemsHaveUniqueKeys}
-use Rattle.json.specs.Tree.{items_depth}
+use Rattle.json.specs.Json.{string}
+use Rattle.json_objects.proofs.Fine.{IsFine, MayBeFine, deeper, fine_array, fine_object}
 use Rattle.rad_realms.specs.Configuration.{ClientEntry, HomeEntry, RealmEntry, Configuration}
-use Rattle.config_json.specs.Written.{client_slots, client_value, config_slots, config_value, home_slots, home_value, items_of, name_at, realm_slots, realm_value, secret_value}
-use Rattle.config_json.proofs.Members.{IsFine, MayBeFine, fine_object}
-
-fine_items : {X : Type 0} (value : X → Json) (most : ℕ) → ((x : X) → IsFine most (value x)) → (xs : List X) → (items_depth (items_of value xs) ≤ most) × ItemsHaveUniqueKeys (items_of value xs)
-fine_items value most fine [] = (omega arith, tt)
-fine_items value most fine (x ∷ xs) =
-    let here = fine x in
-    let rest = fine_items value most fine xs in
-    (omega (arith, here.0, rest.0), (here.1, rest.1))
-
-fine_array : {X : Type 0} (value : X → Json) (most : ℕ) → ((x : X) → IsFine most (value x)) → (xs : List X) → IsFine (most + 1) (array (items_of value xs))
-fine_array value most fine xs = let all = fine_items value most fine xs in (omega (arith, all.0), all.1)
-
-deeper : (less most : ℕ) (j : Json) → less ≤ most → IsFine less j → IsFine most j
-deeper less most j le fine = (omega (arith, fine.0, le), fine.1)
+use Rattle.config_json.specs.Written.{client_slots, client_value, config_slots, config_value, home_slots, home_value, name_at, realm_slots, realm_value, secret_value}
 
 if_text : (most : ℕ) (t : Bool) (text : List ℕ) → MayBeFine most (cond t (Some (string text)) None)
 if_text most true text = (omega arith, tt)

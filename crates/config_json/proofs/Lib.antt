@@ -1,6 +1,3 @@
-mod Adding
-mod Behind
 mod Fine
-mod Members
 mod Names
 mod Secrets

@@ -5,9 +5,9 @@ use Rattle.std.specs.Str.{IsUtf8, is_utf8}
 use Rattle.std.proofs.lemmas.Str.{IsUtf8-from_is_utf8, is_utf8-from_IsUtf8}
 use Rattle.json.specs.Json.{Json, string}
 use Rattle.json.specs.Written.{Written}
-use Rattle.config_json.specs.Written.{name_at, secret_slots, secret_value}
-use Rattle.config_json.specs.internal.Adding.{AddsSlots, slots_tokens}
-use Rattle.config_json.proofs.Adding.{adds_nothing, slots_are}
+use Rattle.json_objects.specs.Adding.{AddsSlots, slots_tokens}
+use Rattle.json_objects.proofs.Adding.{adds_nothing, slots_are}
+use Rattle.config_json.specs.Written.{secret_slots, secret_value}
 
 asked_value : (asked : Bool) (secret octets : List ℕ) (t : Bool) → asked ≡ true → octets ≡ secret → is_utf8 octets ≡ t → secret_value asked secret ≡ cond t (Some (string octets)) None
 asked_value asked secret octets t wants its e =

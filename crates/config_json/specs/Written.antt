@@ -1,41 +1,12 @@
 -- The value of JSON that a configuration is printed as (own): its own keys, each with what the program read, or its default.
-use Rattle.std.specs.Prelude.{◌≡◌, ℕ, Bool, true, false, List, [], ◌∷◌, ◌++◌, codes, decimal, cond, Option, Some, None, option_map, option_and_then}
+use Rattle.std.specs.Prelude.{ℕ, Bool, true, false, List, [], ◌∷◌, ◌++◌, codes, cond, Option, Some, None, option_map, option_and_then}
 use Rattle.std.specs.List.{slice_get}
-use Rattle.std.specs.Str.{IsUtf8, is_utf8}
-use Rattle.json.specs.Json.{Json, number, string, array, object, document, Items, no_items, item, Members, no_members, member}
-use Rattle.json.specs.Strict.{HasUniqueKeys}
+use Rattle.std.specs.Str.{is_utf8}
+use Rattle.json.specs.Json.{Json, string, array}
+use Rattle.json_objects.specs.Written.{object_of, items_of, number_value}
 use Rattle.rad_config.specs.declared.limits.LimitNumbers.{LimitNumbers}
 use Rattle.rad_realms.specs.Configuration.{ClientEntry, HomeEntry, RealmEntry, Configuration}
 use Rattle.rad_realms.specs.Printed.{address_text, endpoint_text}
-
--- Octets that are this value, with a line end. No object has a key twice.
-pub record IsLineOf (value : Json) (all : List ℕ) : Type 0 where
-  pub line : List ℕ
-  pub characters : IsUtf8 line
-  pub read : document line ≡ Some value
-  pub once : HasUniqueKeys value
-  pub are : all ≡ line ++ 10 ∷ []
-
--- The members of an object, in order: each key with its value, and without those that have none.
-abbrev pub member_if : List ℕ → Option Json → Members → Members
-member_if key None others = others
-member_if key (Some value) others = member key value others
-
-abbrev pub present : List (List ℕ × Option Json) → Members
-present [] = no_members
-present (slot ∷ slots) = member_if slot.0 slot.1 (present slots)
-
-abbrev pub object_of : List (List ℕ × Option Json) → Json
-object_of slots = object (present slots)
-
--- A list, with the value of each of its items.
-abbrev pub items_of : {X : Type 0} → (X → Json) → List X → Items
-items_of value [] = no_items
-items_of value (x ∷ xs) = item (value x) (items_of value xs)
-
--- A number, in decimal.
-abbrev pub number_value : ℕ → Json
-number_value its = number (decimal its)
 
 -- A secret, if secrets are asked for. It is text, as TOML is.
 abbrev pub secret_value : Bool → List ℕ → Option Json

@@ -1,10 +1,11 @@
 //! The faults that end the program.
 
+use rad_files::LoadFault;
 use rad_log::Escaped;
 use rad_realms::ConfigFault;
 use std::alloc::{AllocError, Global};
 use std::fmt;
-use std::io::{Error, ErrorKind};
+use std::io::ErrorKind;
 use thiserror::Error as FaultError;
 
 /// Why the program ends early. Its `Display` is the line for standard error.
@@ -28,7 +29,7 @@ pub enum Fault {
 }
 
 impl Fault {
-    ghost use Rattle.std.specs.Prelude.{◌≡◌};
+    ghost use Rattle.std.specs.Prelude.{◌≡◌, ◌≤◌};
     ghost use Rattle.config_json.specs.Statuses.{status_of};
 
     /// Returns the status that the program ends with.
@@ -42,16 +43,17 @@ impl Fault {
         }
     }
 
-    /// Returns the fault of a file of this path that can't be read.
-    pub fn of_file(alloc: Global, path: &str, error: &Error) -> Fault
-        ensures { status_of result ≡ 4 }
+    /// Returns the fault of a file of this path whose configuration is not loaded.
+    pub fn of_load(alloc: Global, path: &str, fault: LoadFault) -> Fault
+        ensures { 2 ≤ status_of result }
     {
-        if error.kind() == ErrorKind::OutOfMemory {
-            return Fault::Memory;
-        }
-        match String::from_str(alloc, path) {
-            Ok(path) => Fault::File(FileName(path)),
-            Err(_) => Fault::Memory,
+        match fault {
+            LoadFault::Configuration(fault) => Fault::Configuration(fault),
+            LoadFault::File(error) if error.kind() == ErrorKind::OutOfMemory => Fault::Memory,
+            LoadFault::File(_) => match String::from_str(alloc, path) {
+                Ok(path) => Fault::File(FileName(path)),
+                Err(_) => Fault::Memory,
+            },
         }
     }
 }

@@ -3,11 +3,10 @@
 #![tactic(auto)]
 
 mod faults;
-mod reading;
 mod writing;
 
 use faults::Fault;
-use reading::load;
+use rad_files::load_configuration;
 use std::alloc::{AllocGlobal, Global};
 use std::env::{self, Env};
 use std::fs;
@@ -70,7 +69,10 @@ fn print_config<R: Runtime>(
 where
     R::File: Drop,
 {
-    let config = load(rt, alloc, path)?;
+    let config = match load_configuration(rt, alloc, path) {
+        Ok(config) => config,
+        Err(fault) => return Err(Fault::of_load(alloc, path, fault)),
+    };
     let line = write_config(alloc, &config, with_secrets)?;
     match io::writer(rt).write_all(line.as_slice()) {
         Ok(()) => Ok(()),

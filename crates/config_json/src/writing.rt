@@ -1,13 +1,15 @@
 //! A configuration as a line of JSON.
 
-ghost use Rattle.std.specs.Prelude.{◌≡◌, ◌≤◌, ◌<◌, [], ◌∷◌, IfOk, OnOk, All, Bool, Some, codes, length, option_map};
+ghost use Rattle.std.specs.Prelude.{◌≡◌, [], ◌∷◌, IfOk, OnOk, Some};
 ghost use Rattle.json.specs.Json.{array, string};
 ghost use Rattle.json.specs.Tree.{json_tokens};
 ghost use Rattle.rad_realms.specs.Printed.{address_text, endpoint_text};
-ghost use Rattle.config_json.specs.internal.Adding.{Adds, AddsSlots, EndsLine};
-ghost use Rattle.config_json.specs.Written.{IsLineOf, client_value, config_value, home_value, items_of, limits_slots, name_at, number_value, realm_value, secret_slots};
+ghost use Rattle.json_objects.specs.Adding.{Adds, AddsSlots};
+ghost use Rattle.json_objects.specs.Written.{HasValueBehind, items_of, number_value};
+ghost use Rattle.config_json.specs.Written.{client_value, config_value, home_value, limits_slots, name_at, realm_value, secret_slots};
 
 use json::Writer;
+use json_objects::{close_line, text};
 use rad_auth::Secret;
 use rad_realms::{AddressText, Client, Config, Endpoint, Home, LimitNumbers, Realm};
 use std::alloc::{AllocError, Global};
@@ -22,20 +24,11 @@ pub fn write_config(
     config: &Config,
     with_secrets: bool,
 ) -> Result<Vec<u8>, AllocError>
-    ensures { IfOk result (λ line. IsLineOf (config_value with_secrets config.now) line.items) }
+    ensures { IfOk result (λ line. HasValueBehind [] line.items (config_value with_secrets config.now)) }
 {
     let mut writer = Writer::new(Vec::new(alloc));
     config_members(alloc, &mut writer, config, with_secrets)?;
     close_line(writer)
-}
-
-/// Returns what was written, with its line end.
-fn close_line(writer: Writer) -> Result<Vec<u8>, AllocError>
-    ensures { IfOk result (λ all. EndsLine writer all.items) }
-{
-    let mut out = writer.into_inner();
-    out.push(b'\n')?;
-    Ok(out)
 }
 
 /// Writes the object of a configuration.
@@ -227,18 +220,10 @@ fn secret_if_asked(
     }
 }
 
-fn text(writer: &mut Writer, key: &str, value: &str) -> Result<(), AllocError>
-    ensures { OnOk result (AddsSlots writer.old writer.new ((key.now, (Some (string value.now))) ∷ [])) }
-{
-    writer.key(key)?;
-    writer.string(value)
-}
-
 fn number(writer: &mut Writer, key: &str, value: u32) -> Result<(), AllocError>
     ensures { OnOk result (AddsSlots writer.old writer.new ((key.now, (Some (number_value value))) ∷ [])) }
 {
-    writer.key(key)?;
-    writer.u64(u64::from(value))
+    json_objects::number(writer, key, u64::from(value))
 }
 
 fn address(

@@ -1,6 +1,6 @@
 -- The day of the calendar, by years that begin on March 1.
 use Rattle.std.proofs.Common.{◌≡◌, ℕ, zero, suc, ◌+◌, ◌-◌, ◌*◌, ◌/◌, ◌%◌, ◌<◌, ◌≤◌, min, ◌⊎◌, ⊎_elim, inl, inr, sym, subst, arith}
-use Rattle.ledger_files.specs.Calendar.{leap_day, days_before_year, IsDateOf}
+use Rattle.ledger_files.specs.Calendar.{leap_day, days_before_year, month_lengths, sum_of_first, number_at, IsDateOf}
 use Rattle.ledger_files.proofs.Orders.{below_or_not}
 use Rattle.ledger_files.proofs.Years.{leap_days_step, days_before, days_before_1970}
 
@@ -27,8 +27,8 @@ march_first days cycle century four year rest s =
 whole_year : (year rest : ℕ) → (year < 3 → rest < 365) → year ≤ 3 → rest ≡ 365 → year ≡ 3
 whole_year year rest short most e = ⊎_elim (λ (l : year < 3). let k : rest < 365 = short l in absurd (omega arith)) (λ (l : 3 ≤ year). omega arith) (below_or_not year 3)
 
-whole_century : (century four : ℕ) → (century < 3 → 1461 * four + 1460 < 36524) → century ≤ 3 → four ≤ 24 → (four < 24) ⊎ (century ≡ 3)
-whole_century century four short most fours = ⊎_elim (λ (l : century < 3). let k : 1461 * four + 1460 < 36524 = short l in inl (omega arith)) (λ (l : 3 ≤ century). inr (omega arith)) (below_or_not century 3)
+whole_century : (century four : ℕ) → (century < 3 → 1461 * four + 1460 < 36524) → century ≤ 3 → 24 ≤ four → century ≡ 3
+whole_century century four short most l = ⊎_elim (λ (low : century < 3). let k : 1461 * four + 1460 < 36524 = short low in absurd (omega arith)) (λ (high : 3 ≤ century). omega arith) (below_or_not century 3)
 
 -- Its last day is a leap day.
 pub last_is_leap : (days cycle century four year rest : ℕ) → IsSplit days cycle century four year rest → rest ≡ 365
@@ -46,55 +46,18 @@ last_is_leap days cycle century four year rest s e =
     let next_by_100 : suc n / 100 ≡ 4 * cycle + century = omega arith in
     let next_by_400 : suc n / 400 ≡ cycle = omega arith in
     omega (arith, leap_days_step n))
-    (λ (k : century ≡ 3).
-    ⊎_elim
-    (λ (l : four < 24).
-    let next_by_4 : suc n / 4 ≡ 100 * cycle + 25 * century + four + 1 = omega arith in
-    let next_by_100 : suc n / 100 ≡ 4 * cycle + century = omega arith in
-    let next_by_400 : suc n / 400 ≡ cycle = omega arith in
-    omega (arith, leap_days_step n))
     (λ (l : 24 ≤ four).
-    let next_by_4 : suc n / 4 ≡ 100 * cycle + 100 = omega arith in
-    let next_by_100 : suc n / 100 ≡ 4 * cycle + 4 = omega arith in
-    let next_by_400 : suc n / 400 ≡ cycle + 1 = omega arith in
+    let k : century ≡ 3 = whole_century century four short s.most_centuries l in
+    let next_by_4 : suc n / 4 ≡ 100 * cycle + 100 = omega (arith, s.most_fours) in
+    let next_by_100 : suc n / 100 ≡ 4 * cycle + 4 = omega (arith, s.most_fours) in
+    let next_by_400 : suc n / 400 ≡ cycle + 1 = omega (arith, s.most_fours) in
     omega (arith, leap_days_step n))
-    (below_or_not four 24))
-    (whole_century century four short s.most_centuries s.most_fours)
+    (below_or_not four 24)
 
 -- From March to December.
 abbrev AsLate : ℕ → ℕ → ℕ → ℕ → Type 0
 AsLate days year rest place = place ≡ (5 * rest + 2) / 153
     → IsDateOf days (record { year = year; month = place + 3; day = rest - (153 * place + 2) / 5 + 1 })
-
-late_0 : (days year rest : ℕ) → days_before_year year + leap_day year + rest ≡ days + 719469 → AsLate days year rest 0
-late_0 days year rest h e = record { month = (omega arith, omega arith); day = (omega arith, omega arith); counted = omega (arith, days_before_1970) }
-
-late_1 : (days year rest : ℕ) → days_before_year year + leap_day year + rest ≡ days + 719469 → AsLate days year rest 1
-late_1 days year rest h e = record { month = (omega arith, omega arith); day = (omega arith, omega arith); counted = omega (arith, days_before_1970) }
-
-late_2 : (days year rest : ℕ) → days_before_year year + leap_day year + rest ≡ days + 719469 → AsLate days year rest 2
-late_2 days year rest h e = record { month = (omega arith, omega arith); day = (omega arith, omega arith); counted = omega (arith, days_before_1970) }
-
-late_3 : (days year rest : ℕ) → days_before_year year + leap_day year + rest ≡ days + 719469 → AsLate days year rest 3
-late_3 days year rest h e = record { month = (omega arith, omega arith); day = (omega arith, omega arith); counted = omega (arith, days_before_1970) }
-
-late_4 : (days year rest : ℕ) → days_before_year year + leap_day year + rest ≡ days + 719469 → AsLate days year rest 4
-late_4 days year rest h e = record { month = (omega arith, omega arith); day = (omega arith, omega arith); counted = omega (arith, days_before_1970) }
-
-late_5 : (days year rest : ℕ) → days_before_year year + leap_day year + rest ≡ days + 719469 → AsLate days year rest 5
-late_5 days year rest h e = record { month = (omega arith, omega arith); day = (omega arith, omega arith); counted = omega (arith, days_before_1970) }
-
-late_6 : (days year rest : ℕ) → days_before_year year + leap_day year + rest ≡ days + 719469 → AsLate days year rest 6
-late_6 days year rest h e = record { month = (omega arith, omega arith); day = (omega arith, omega arith); counted = omega (arith, days_before_1970) }
-
-late_7 : (days year rest : ℕ) → days_before_year year + leap_day year + rest ≡ days + 719469 → AsLate days year rest 7
-late_7 days year rest h e = record { month = (omega arith, omega arith); day = (omega arith, omega arith); counted = omega (arith, days_before_1970) }
-
-late_8 : (days year rest : ℕ) → days_before_year year + leap_day year + rest ≡ days + 719469 → AsLate days year rest 8
-late_8 days year rest h e = record { month = (omega arith, omega arith); day = (omega arith, omega arith); counted = omega (arith, days_before_1970) }
-
-late_9 : (days year rest : ℕ) → days_before_year year + leap_day year + rest ≡ days + 719469 → AsLate days year rest 9
-late_9 days year rest h e = record { month = (omega arith, omega arith); day = (omega arith, omega arith); counted = omega (arith, days_before_1970) }
 
 below_ten : (P : ℕ → Type 0) → P 0 → P 1 → P 2 → P 3 → P 4 → P 5 → P 6 → P 7 → P 8 → P 9 → (n : ℕ) → n < 10 → P n
 below_ten P p0 p1 p2 p3 p4 p5 p6 p7 p8 p9 zero l = p0
@@ -109,12 +72,22 @@ below_ten P p0 p1 p2 p3 p4 p5 p6 p7 p8 p9 (suc (suc (suc (suc (suc (suc (suc (su
 below_ten P p0 p1 p2 p3 p4 p5 p6 p7 p8 p9 (suc (suc (suc (suc (suc (suc (suc (suc (suc zero))))))))) l = p9
 below_ten P p0 p1 p2 p3 p4 p5 p6 p7 p8 p9 (suc (suc (suc (suc (suc (suc (suc (suc (suc (suc n)))))))))) l = absurd (omega arith)
 
+-- How many days of the year are before the month of a place, and how many it has.
+abbrev HasDays : ℕ → ℕ → Type 0
+HasDays year place =
+    (sum_of_first (place + 3 - 1) (month_lengths year) ≡ (153 * place + 2) / 5 + 59 + leap_day year) × (number_at (place + 3 - 1) (month_lengths year) + (153 * place + 2) / 5 ≡ (153 * place + 155) / 5)
+
+has_days : (year place : ℕ) → place < 10 → HasDays year place
+has_days year =
+    let all : (n : ℕ) → n < 10 → HasDays year n =
+    below_ten (HasDays year) (omega arith, omega arith) (omega arith, omega arith) (omega arith, omega arith) (omega arith, omega arith) (omega arith, omega arith)
+    (omega arith, omega arith) (omega arith, omega arith) (omega arith, omega arith) (omega arith, omega arith) (omega arith, omega arith) in
+    all
+
 pub late : (days year rest place : ℕ) → days_before_year year + leap_day year + rest ≡ days + 719469 → place < 10 → AsLate days year rest place
-late days year rest place h l =
-    below_ten (AsLate days year rest)
-    (late_0 days year rest h) (late_1 days year rest h) (late_2 days year rest h) (late_3 days year rest h) (late_4 days year rest h)
-    (late_5 days year rest h) (late_6 days year rest h) (late_7 days year rest h) (late_8 days year rest h) (late_9 days year rest h)
-    place l
+late days year rest place h l e =
+    let has = has_days year place l in
+    record { month = (omega arith, omega arith); day = (omega arith, omega arith); counted = omega (arith, days_before_1970) }
 
 -- January and February.
 abbrev AsEarly : ℕ → ℕ → ℕ → ℕ → Type 0
@@ -138,6 +111,10 @@ early days year rest place h most leap l e = ⊎_elim
     (λ (k : place ≡ 10). subst (AsEarly days year rest) (sym k) (early_10 days year rest h) e)
     (λ (k : place ≡ 11). subst (AsEarly days year rest) (sym k) (early_11 days year rest h (february rest (leap_day year) most leap)) e)
     (ten_or_eleven place rest l most e)
+
+-- The year that began on March 1, of what the divisions give.
+abbrev pub year_from_march : ℕ → ℕ → ℕ → ℕ
+year_from_march days century year = 400 * (days / 146097) + 100 * century + 4 * ((days % 146097 - century * 36524) / 1461) + year
 
 -- What the divisions give is a split.
 pub split : (days century year : ℕ) → let in_cycle = days % 146097 in century ≡ min (in_cycle / 36524) 3 → let in_century = in_cycle - century * 36524 in year ≡ min (in_century % 1461 / 365) 3

@@ -1,5 +1,5 @@
 -- What each call leaves of a run.
-use Rattle.std.proofs.Common.{◌≡◌, ℕ, zero, suc, ◌+◌, ◌-◌, ◌<◌, ◌≤◌, Bool, true, false, inl, List, [], ◌∷◌, ◌++◌, Option, Some, None, Result, Ok, Err, MatchResult, length, take, drop, get_or, refl, sym, ap, ◌∙◌, subst, ⊎_elim, arith, length-append, append-nil, add-one}
+use Rattle.std.proofs.Common.{◌≡◌, ℕ, zero, suc, ◌+◌, ◌-◌, ◌<◌, ◌≤◌, Bool, true, false, inl, inr, List, [], ◌∷◌, ◌++◌, Option, Some, None, Result, Ok, Err, MatchResult, length, take, drop, get_or, refl, sym, ap, ◌∙◌, subst, ⊎_elim, arith, length-append, append-nil, add-one}
 use Rattle.std.specs.Prelude.{IfSome, IsErrAnd, IsTrue, ◌↔◌}
 use Rattle.std.specs.List.{concat, slice_range}
 use Rattle.std.proofs.Math.Seq.{take-suc, drop-cons, drop-append-add}
@@ -30,8 +30,8 @@ same_start : (old new : Batch) (held : List (List ℕ)) → HoldsLines old held 
 same_start old new held o n w = n.start ∙ ap (λ (k : ℕ). length (concat (take k held))) w ∙ sym o.start
 
 module _ (old new : Batch) (left : List (List ℕ)) (written : ℕ) where
-  left_kept : Keeps old new → new.done ≡ old.done → new.whole ≡ old.whole → IsLeft old left written → IsLeft new left written
-  left_kept keeps d w h =
+  left_written : (now : ℕ) → Keeps old new → old.done + now ≡ new.done + written → new.whole ≡ old.whole → IsLeft old left written → IsLeft new left now
+  left_written now keeps sum w h =
       let start : new.start ≡ old.start = same_start old new h.held h.batch_is (keeps h.held h.batch_is) w in
       record {
         held = h.held;
@@ -40,25 +40,11 @@ module _ (old new : Batch) (left : List (List ℕ)) (written : ℕ) where
         written_is = omega (arith, h.written_is);
       }
 
-  left_written : (now : ℕ) → Keeps old new → old.done ≤ new.done → old.done + now ≡ new.done + written → new.whole ≡ old.whole → IsLeft old left written → IsLeft new left now
-  left_written now keeps l sum w h =
-      let start : new.start ≡ old.start = same_start old new h.held h.batch_is (keeps h.held h.batch_is) w in
-      record {
-        held = h.held;
-        batch_is = keeps h.held h.batch_is;
-        left_is = h.left_is ∙ ap (λ (k : ℕ). drop k h.held) (sym w);
-        written_is = omega (arith, h.written_is);
-      }
+  left_kept : Keeps old new → new.done ≡ old.done → new.whole ≡ old.whole → IsLeft old left written → IsLeft new left written
+  left_kept keeps d w h = left_written written keeps (omega arith) w h
 
   left_again : Keeps old new → new.done ≡ old.start → new.whole ≡ old.whole → IsLeft old left written → IsLeft new left 0
-  left_again keeps d w h =
-      let start : new.start ≡ old.start = same_start old new h.held h.batch_is (keeps h.held h.batch_is) w in
-      record {
-        held = h.held;
-        batch_is = keeps h.held h.batch_is;
-        left_is = h.left_is ∙ ap (λ (k : ℕ). drop k h.held) (sym w);
-        written_is = omega arith;
-      }
+  left_again keeps d w h = left_written 0 keeps (omega (arith, h.written_is)) w h
 
   left_added : (line : List ℕ) → ((held : List (List ℕ)) → HoldsLines old held → HoldsLines new (held ++ line ∷ [])) → new.done ≡ old.done → new.whole ≡ old.whole
       → IsLeft old left written → IsLeft new (left ++ line ∷ []) written
@@ -286,32 +272,37 @@ first_wrote (Some fs) after old new batch last sum lines opens e o p l k h =
     } in
     subst P (sym e) is
 
--- The first line is passed, where it is written whole and was not passed before.
-module _ (files : List File) (old new : Pending) (left : List (List ℕ)) (written : ℕ) (last : Begun) (sum next : List ℕ) (lines : List (List ℕ)) where
-  first_as : Passes old new → Goes sum next (newly_passed old new) → IsOpen files → (b c : Bool) → old.is_passed ≡ b → new.is_passed ≡ c
-      → IsRunWith files (begun_of old) left written last sum lines → IsRunWith files (begun_of new) left written last next lines
-  first_as p g o true true e f h =
-      let same : begun_of old ≡ begun_of new = begun_same (begun_of old) (begun_of new) (ap (λ v. v.items) (sym p.octets)) (sym p.done) (e ∙ sym f) in
-      let nothing : newly_passed old new ≡ [] = ap (λ (b : Bool). if_passed b new.is_passed new.octets.items) e in
-      let P : Begun → Type 0 = λ b. IsRunWith files b left written last next lines in
-      subst P same (with_sum files (begun_of old) left written last sum next lines (λ its s. g its s ∙ ap (λ (x : List (List ℕ)). chain_of (its ++ x)) nothing ∙ ap chain_of (append-nil its)) h)
-  first_as p g o false false e f h =
-      let same : begun_of old ≡ begun_of new = begun_same (begun_of old) (begun_of new) (ap (λ v. v.items) (sym p.octets)) (sym p.done) (e ∙ sym f) in
-      let nothing : newly_passed old new ≡ [] = ap (λ (b : Bool). if_passed old.is_passed b new.octets.items) f ∙ ap (λ (b : Bool). if_passed b false new.octets.items) e in
-      let P : Begun → Type 0 = λ b. IsRunWith files b left written last next lines in
-      subst P same (with_sum files (begun_of old) left written last sum next lines (λ its s. g its s ∙ ap (λ (x : List (List ℕ)). chain_of (its ++ x)) nothing ∙ ap chain_of (append-nil its)) h)
-  first_as p g o true false e f h = absurd (opposed new.is_passed (p.passed.1 (inl e)) f)
-  first_as p g o false true e f h =
+-- A line is passed, where it is written whole and was not passed before: what is so of it and of the chain of the lines before is so of it and of
+-- the chain with it. That is told by what another chain of the same lines leaves so, by the lines before, and by what leaves it so that it passes.
+module _ (old new : Pending) (sum next : List ℕ) (Q : Begun → List ℕ → Type 0) (p : Passes old new) (g : Goes sum next (newly_passed old new)) where
+  stays : (((its : List (List ℕ)) → sum ≡ chain_of its → next ≡ chain_of its) → Q (begun_of old) sum → Q (begun_of old) next)
+      → old.is_passed ≡ new.is_passed → newly_passed old new ≡ [] → Q (begun_of old) sum → Q (begun_of new) next
+  stays again e nothing h =
+      let same : begun_of old ≡ begun_of new = begun_same (begun_of old) (begun_of new) (ap (λ v. v.items) (sym p.octets)) (sym p.done) e in
+      let P : Begun → Type 0 = λ b. Q b next in
+      subst P same (again (λ its s. g its s ∙ ap (λ (x : List (List ℕ)). chain_of (its ++ x)) nothing ∙ ap chain_of (append-nil its)) h)
+
+  passed_as : (((its : List (List ℕ)) → sum ≡ chain_of its → next ≡ chain_of its) → Q (begun_of old) sum → Q (begun_of old) next)
+      → (Q (begun_of old) sum → (its : List (List ℕ)) × (sum ≡ chain_of its))
+      → (old.is_passed ≡ false → old.done ≡ length old.octets.items → next ≡ chain_after sum (sha256 old.octets.items) → Q (begun_of old) sum → Q (as_passed (begun_of old)) next)
+      → (b c : Bool) → old.is_passed ≡ b → new.is_passed ≡ c → Q (begun_of old) sum → Q (begun_of new) next
+  passed_as again before passes true true e f h = stays again (e ∙ sym f) (ap (λ (b : Bool). if_passed b new.is_passed new.octets.items) e) h
+  passed_as again before passes false false e f h =
+      stays again (e ∙ sym f) (ap (λ (b : Bool). if_passed old.is_passed b new.octets.items) f ∙ ap (λ (b : Bool). if_passed b false new.octets.items) e) h
+  passed_as again before passes true false e f h = absurd (opposed new.is_passed (p.passed.1 (inl e)) f)
+  passed_as again before passes false true e f h =
       let done : old.done ≡ length old.octets.items = ⊎_elim (λ (was : IsTrue old.is_passed). absurd (opposed old.is_passed was e)) (λ (d : old.done ≡ length old.octets.items). d) (p.passed.0 f) in
       let its : newly_passed old new ≡ old.octets.items ∷ [] =
       ap (λ (b : Bool). if_passed b new.is_passed new.octets.items) e ∙ ap (λ (b : Bool). if_passed false b new.octets.items) f ∙ ap (λ v. v.items ∷ []) p.octets in
       let same : as_passed (begun_of old) ≡ begun_of new =
       begun_same (as_passed (begun_of old)) (begun_of new) (ap (λ v. v.items) (sym p.octets)) (sym p.done) (sym f) in
-      let P : Begun → Type 0 = λ b. IsRunWith files b left written last next lines in
+      let P : Begun → Type 0 = λ b. Q b next in
+      let lines : List (List ℕ) = (before h).0 in
+      let sum_is : sum ≡ chain_of lines = (before h).1 in
       let more : next ≡ chain_after sum (sha256 old.octets.items) =
-      g (passed_of h.parts) h.sum_is ∙ ap (λ (x : List (List ℕ)). chain_of (passed_of h.parts ++ x)) its
-      ∙ line_more (passed_of h.parts) old.octets.items ∙ ap (λ (x : List ℕ). chain_after x (sha256 old.octets.items)) (sym h.sum_is) in
-      subst P same (first_passes (begun_of old) left written last sum next lines files o e done more h)
+      g lines sum_is ∙ ap (λ (x : List (List ℕ)). chain_of (lines ++ x)) its
+      ∙ line_more lines old.octets.items ∙ ap (λ (x : List ℕ). chain_after x (sha256 old.octets.items)) (sym sum_is) in
+      subst P same (passes e done more h)
 
 pub first_passes_now : (files : Option (List File)) (old new : Pending) (batch : Batch) (last : Pending) (sum next : List ℕ) (lines : List (List ℕ)) → IfSome files (λ fs. IsOpen fs)
     → Passes old new → Goes sum next (newly_passed old new) → Of files old batch last sum lines → Of files new batch last next lines
@@ -320,7 +311,10 @@ first_passes_now (Some fs) old new batch last sum next lines opens p g h = recor
   left = h.left;
   written = h.written;
   batch_is = h.batch_is;
-  run_is = first_as fs old new h.left h.written (begun_of last) sum next lines p g opens old.is_passed new.is_passed refl refl h.run_is;
+  run_is =
+      passed_as old new sum next (λ b s. IsRunWith fs b h.left h.written (begun_of last) s lines) p g
+      (with_sum fs (begun_of old) h.left h.written (begun_of last) sum next lines) (λ r. (passed_of r.parts, r.sum_is))
+      (first_passes (begun_of old) h.left h.written (begun_of last) sum next lines fs opens) old.is_passed new.is_passed refl refl h.run_is;
 }
 
 pub entries_wrote : (before after : Option (List File)) (first : Pending) (old new : Batch) (last : Pending) (sum : List ℕ) (lines : List (List ℕ)) → IfSome before (λ fs. IsOpen fs) → first.is_passed ≡ true
@@ -333,7 +327,7 @@ entries_wrote (Some fs) after first old new last sum lines opens t e keeps l fit
     let to : List File = with_octets fs (slice_range (concat h.left) h.written now) in
     let range : slice_range old.octets.items old.done new.done ≡ slice_range (concat h.left) h.written now =
     same_range old new h.left h.written now (omega (arith, h.batch_is.written_is)) h.batch_is in
-    let new_left : IsLeft new h.left now = left_written old new h.left h.written now keeps l (omega arith) w h.batch_is in
+    let new_left : IsLeft new h.left now = left_written old new h.left h.written now keeps (omega arith) w h.batch_is in
     let all : first.done ≡ length first.octets.items = first_is_done fs h.run_is.parts (begun_of first) h.left h.written (begun_of last) opens h.run_is.open_is t in
     let is : IsRunOf to first new last sum lines = record {
       left = h.left;
@@ -342,6 +336,23 @@ entries_wrote (Some fs) after first old new last sum lines opens t e keeps l fit
       run_is = entries_step (begun_of first) h.left h.written (begun_of last) sum lines now fs opens t all (omega arith) (written_within new new h.left now fits new_left) h.run_is;
     } in
     subst P (sym (e ∙ ap (λ (x : List ℕ). Some (with_octets fs x)) range)) is
+
+-- The line that begins the file is written, and passed where it is whole, and then the lines of entries are written.
+module _ (before middle : Option (List File)) (old wrote_to new : Pending) (batch : Batch) (last : Pending) (sum next : List ℕ) (lines : List (List ℕ)) where
+  pub first_written : IfSome before (λ fs. IsOpen fs) → middle ≡ wrote before (slice_range old.octets.items old.done wrote_to.done) → wrote_to.octets.items ≡ old.octets.items → wrote_to.is_passed ≡ old.is_passed
+      → old.done ≤ wrote_to.done → wrote_to.done ≤ length wrote_to.octets.items → Passes wrote_to new → Goes sum next (newly_passed wrote_to new) → Of before old batch last sum lines → Of middle new batch last next lines
+  first_written opens e o was l k p g h =
+      let within : wrote_to.done ≤ length old.octets.items = omega (arith, k, ap length o) in
+      first_passes_now middle wrote_to new batch last sum next lines (open_after before middle _ e opens) p g
+      (first_wrote before middle old wrote_to batch last sum lines opens e o was l within h)
+
+  pub both_written : (after : Option (List File)) (to : Batch) → IfSome before (λ fs. IsOpen fs) → middle ≡ wrote before (slice_range old.octets.items old.done wrote_to.done) → wrote_to.octets.items ≡ old.octets.items
+      → wrote_to.is_passed ≡ old.is_passed → old.done ≤ wrote_to.done → wrote_to.done ≡ length old.octets.items → Passes wrote_to new → Goes sum next (newly_passed wrote_to new)
+      → after ≡ wrote middle (slice_range batch.octets.items batch.done to.done) → Keeps batch to → batch.done ≤ to.done → Fits to → to.whole ≡ batch.whole → Of before old batch last sum lines → Of after new to last next lines
+  both_written after to opens e o was l all p g e2 keeps m fits w h =
+      let whole : wrote_to.done ≡ length wrote_to.octets.items = omega (arith, all, ap length o) in
+      entries_wrote middle after new batch to last next lines (open_after before middle _ e opens) (p.passed.1 (inr whole)) e2 keeps m fits w
+      (first_written opens e o was l (omega (arith, whole)) p g h)
 
 pub end_wrote : (before after : Option (List File)) (first : Pending) (batch : Batch) (old new : Pending) (sum : List ℕ) (lines : List (List ℕ)) → IfSome before (λ fs. IsOpen fs) → first.is_passed ≡ true
     → batch.whole ≡ length batch.ends.items → after ≡ wrote before (slice_range old.octets.items old.done new.done) → new.octets.items ≡ old.octets.items → new.is_passed ≡ old.is_passed
@@ -361,35 +372,6 @@ end_wrote (Some fs) after first batch old new sum lines opens t d e o p l k h =
     } in
     subst P (sym e) is
 
--- The line that ends the run is passed, where it is written whole and was not passed before.
-module _ (files : List File) (first : Begun) (old new : Pending) (left : List (List ℕ)) (written : ℕ) (sum next : List ℕ) (lines : List (List ℕ)) where
-  end_as : Passes old new → Goes sum next (newly_passed old new) → IsOpen files → first.is_passed ≡ true → left ≡ [] → 0 < length old.octets.items
-      → (b c : Bool) → old.is_passed ≡ b → new.is_passed ≡ c
-      → IsRunWith files first left written (begun_of old) sum lines → IsRunWith files first left written (begun_of new) next lines
-  end_as p g o t none some true true e f h =
-      let same : begun_of old ≡ begun_of new = begun_same (begun_of old) (begun_of new) (ap (λ v. v.items) (sym p.octets)) (sym p.done) (e ∙ sym f) in
-      let nothing : newly_passed old new ≡ [] = ap (λ (b : Bool). if_passed b new.is_passed new.octets.items) e in
-      let P : Begun → Type 0 = λ b. IsRunWith files first left written b next lines in
-      subst P same (with_sum files first left written (begun_of old) sum next lines (λ its s. g its s ∙ ap (λ (x : List (List ℕ)). chain_of (its ++ x)) nothing ∙ ap chain_of (append-nil its)) h)
-  end_as p g o t none some false false e f h =
-      let same : begun_of old ≡ begun_of new = begun_same (begun_of old) (begun_of new) (ap (λ v. v.items) (sym p.octets)) (sym p.done) (e ∙ sym f) in
-      let nothing : newly_passed old new ≡ [] = ap (λ (b : Bool). if_passed old.is_passed b new.octets.items) f ∙ ap (λ (b : Bool). if_passed b false new.octets.items) e in
-      let P : Begun → Type 0 = λ b. IsRunWith files first left written b next lines in
-      subst P same (with_sum files first left written (begun_of old) sum next lines (λ its s. g its s ∙ ap (λ (x : List (List ℕ)). chain_of (its ++ x)) nothing ∙ ap chain_of (append-nil its)) h)
-  end_as p g o t none some true false e f h = absurd (opposed new.is_passed (p.passed.1 (inl e)) f)
-  end_as p g o t none some false true e f h =
-      let done : old.done ≡ length old.octets.items =
-      ⊎_elim (λ (was : IsTrue old.is_passed). absurd (opposed old.is_passed was e)) (λ (d : old.done ≡ length old.octets.items). d) (p.passed.0 f) in
-      let its : newly_passed old new ≡ old.octets.items ∷ [] =
-      ap (λ (b : Bool). if_passed b new.is_passed new.octets.items) e ∙ ap (λ (b : Bool). if_passed false b new.octets.items) f ∙ ap (λ v. v.items ∷ []) p.octets in
-      let same : as_passed (begun_of old) ≡ begun_of new =
-      begun_same (as_passed (begun_of old)) (begun_of new) (ap (λ v. v.items) (sym p.octets)) (sym p.done) (sym f) in
-      let P : Begun → Type 0 = λ b. IsRunWith files first left written b next lines in
-      let more : next ≡ chain_after sum (sha256 old.octets.items) =
-      g (passed_of h.parts) h.sum_is ∙ ap (λ (x : List (List ℕ)). chain_of (passed_of h.parts ++ x)) its
-      ∙ line_more (passed_of h.parts) old.octets.items ∙ ap (λ (x : List ℕ). chain_after x (sha256 old.octets.items)) (sym h.sum_is) in
-      subst P same (end_passes first left written (begun_of old) sum next lines files o t e none done some more h)
-
 pub end_passes_now : (files : Option (List File)) (first : Pending) (batch : Batch) (old new : Pending) (sum next : List ℕ) (lines : List (List ℕ)) → IfSome files (λ fs. IsOpen fs) → first.is_passed ≡ true
     → batch.whole ≡ length batch.ends.items → 0 < length old.octets.items → Passes old new → Goes sum next (newly_passed old new)
     → Of files first batch old sum lines → Of files first batch new next lines
@@ -398,7 +380,11 @@ end_passes_now (Some fs) first batch old new sum next lines opens t d some p g h
   left = h.left;
   written = h.written;
   batch_is = h.batch_is;
-  run_is = end_as fs (begun_of first) old new h.left h.written sum next lines p g opens t (none_left batch batch h.left h.written d h.batch_is) some old.is_passed new.is_passed refl refl h.run_is;
+  run_is =
+      passed_as old new sum next (λ b s. IsRunWith fs (begun_of first) h.left h.written b s lines) p g
+      (with_sum fs (begun_of first) h.left h.written (begun_of old) sum next lines) (λ r. (passed_of r.parts, r.sum_is))
+      (λ e done more r. end_passes (begun_of first) h.left h.written (begun_of old) sum next lines fs opens t e (none_left batch batch h.left h.written d h.batch_is) done some more r)
+      old.is_passed new.is_passed refl refl h.run_is;
 }
 
 pub passed : (files : Option (List File)) (first : Pending) (old new : Batch) (last : Pending) (sum next : List ℕ) (lines : List (List ℕ)) → IfSome files (λ fs. IsOpen fs) → first.is_passed ≡ true

@@ -1,10 +1,8 @@
 -- The value of each line nests no deeper than a reader reads, and has no key twice.
-use Rattle.std.proofs.Common.{ℕ, ◌+◌, ◌≤◌, List, [], ◌∷◌, ◌++◌, codes, Bool, true, false, cond, Option, Some, None, option_map, refl, arith}
+use Rattle.std.proofs.Common.{ℕ, List, [], ◌∷◌, ◌++◌, codes, Bool, true, false, cond, Option, Some, None, option_map, refl, arith}
 use Rattle.std.specs.Prelude.{option_copied}
 use Rattle.std.specs.Str.{is_utf8}
-use Rattle.json.specs.Json.{Json, array, string}
-use Rattle.json.specs.Strict.{ItemsHaveUniqueKeys}
-use Rattle.json.specs.Tree.{items_depth}
+use Rattle.json.specs.Json.{Json, string}
 use Rattle.rad_ledger.specs.declared.entry.Entry.{Entry}
 use Rattle.rad_ledger.specs.declared.left.Left.{Left}
 use Rattle.rad_ledger.specs.declared.line_request.LineRequest.{LineRequest}
@@ -13,8 +11,9 @@ use Rattle.ledger_lines.specs.declared.end.End.{End}
 use Rattle.ledger_lines.specs.declared.begin.FileBefore.{FileBefore}
 use Rattle.ledger_lines.specs.declared.end.LaneCount.{LaneCount}
 use Rattle.ledger_lines.specs.declared.lane_start.LaneStart.{LaneStart}
-use Rattle.ledger_lines.specs.Written.{begin_slots, begin_value, count_slots, count_value, digits_if_any, end_slots, end_value, entry_slots, entry_value, file_slots, file_value, items_of, lane_slots, left_slots, left_value, number_value, octets_value, packet_slots, request_slots, start_slots, start_value, state_slots, text_if_any, words_slots}
-use Rattle.ledger_lines.proofs.Members.{AreFine, IsFine, MayBeFine, fine_both, fine_object}
+use Rattle.json_objects.specs.Written.{number_value}
+use Rattle.ledger_lines.specs.Written.{begin_slots, begin_value, count_slots, count_value, digits_if_any, end_slots, end_value, entry_slots, entry_value, file_slots, file_value, lane_slots, left_slots, left_value, octets_value, packet_slots, request_slots, start_slots, start_value, state_slots, text_if_any, words_slots}
+use Rattle.json_objects.proofs.Fine.{AreFine, IsFine, MayBeFine, deeper, fine_array, fine_both, fine_object}
 
 any_number : (most : ℕ) (its : Option ℕ) → MayBeFine most (option_map number_value its)
 any_number most None = tt
@@ -23,19 +22,6 @@ any_number most (Some n) = (omega arith, tt)
 any_octets : (most : ℕ) (its : Option (List ℕ)) → MayBeFine most (option_map octets_value its)
 any_octets most None = tt
 any_octets most (Some octets) = (omega arith, tt)
-
-fine_items : {X : Type 0} (value : X → Json) (most : ℕ) → ((x : X) → IsFine most (value x)) → (xs : List X) → (items_depth (items_of value xs) ≤ most) × ItemsHaveUniqueKeys (items_of value xs)
-fine_items value most fine [] = (omega arith, tt)
-fine_items value most fine (x ∷ xs) =
-    let here = fine x in
-    let rest = fine_items value most fine xs in
-    (omega (arith, here.0, rest.0), (here.1, rest.1))
-
-fine_array : {X : Type 0} (value : X → Json) (most : ℕ) → ((x : X) → IsFine most (value x)) → (xs : List X) → IsFine (most + 1) (array (items_of value xs))
-fine_array value most fine xs = let all = fine_items value most fine xs in (omega (arith, all.0), all.1)
-
-deeper : (less most : ℕ) (j : Json) → less ≤ most → IsFine less j → IsFine most j
-deeper less most j le fine = (omega (arith, fine.0, le), fine.1)
 
 fine_count : (count : LaneCount) → IsFine 1 (count_value count)
 fine_count count = fine_object 0 (count_slots count) refl ((omega arith, tt), ((omega arith, tt), (any_number 0 count.accepted, (any_number 0 count.left, tt))))

@@ -1,5 +1,5 @@
 -- What a value shows of what stands at a key of an object.
-use Rattle.std.proofs.Common.{◌≡◌, ℕ, ◌<◌, ◌≤◌, ◌^◌, true, false, List, Option, Some, None, is_some, option_map, MatchOption, IfSome, Ok, ok_or, refl, sym, ap, ◌∙◌, subst, arith}
+use Rattle.std.proofs.Common.{◌≡◌, ℕ, ◌<◌, ◌≤◌, ◌^◌, List, length, get_or, codes, Option, Some, None, MatchOption, IfSome, Ok, ok_or, refl, sym, ap, ◌∙◌, subst, arith}
 use Rattle.std.specs.Prelude.{⊤}
 use Rattle.std.specs.Str.Parse.{IsNumeral, digits_value, without_leading_plus, ParsesUnsigned}
 use Rattle.json.specs.Json.{Json, Items, null, boolean, number, string, array, object}
@@ -12,15 +12,6 @@ use Rattle.ledger_lines.proofs.Pairs.{DigitsRead}
 
 abbrev pub nothing : Option ℕ
 nothing = None
-
--- what a search found is there, and nothing is there where it found nothing
-pub found_there : {X : Type 0} (f : X → Json) (found : Option X) (there : Option Json) → option_map f found ≡ there → is_some found ≡ true → (j : Json) × (Some j ≡ there)
-found_there f None there e s = cc
-found_there f (Some x) there e s = (f x, e)
-
-pub none_there : {X : Type 0} (f : X → Json) (found : Option X) (there : Option Json) → option_map f found ≡ there → is_some found ≡ false → None ≡ there
-none_there f None there e s = e
-none_there f (Some x) there e s = cc
 
 pub same_some : {A : Type 0} (x y : A) → Some x ≡ Some y → x ≡ y
 same_some x y e = subst (λ o. IfSome o (λ z. x ≡ z)) e refl
@@ -132,3 +123,9 @@ module _ (key : List ℕ) (value : Json) where
 
   pub no_octets_text : (fault : LineFault) → Denies fault TextThere → Denies fault OctetsThere
   no_octets_text fault d = denied TextThere OctetsThere (λ p. (p.1.digits, p.1.there)) fault d
+
+-- types of different lengths, or that begin with different letters, are not both there
+pub unlike : (value : Json) (t u : List ℕ) → HasText (codes "type") value t → HasText (codes "type") value u → (length t ≡ length u) × (get_or t 0 0 ≡ get_or u 0 0)
+unlike value t u h i =
+    let same = one_text (codes "type") value t u h i in
+    (ap length same, ap (λ xs. get_or xs 0 0) same)

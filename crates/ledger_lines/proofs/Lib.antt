@@ -8,7 +8,6 @@ pub mod Types
 pub mod Known
 pub mod Adding
 pub mod Members
-pub mod Behind
 pub mod Fine
 pub mod Told
 pub mod Single

@@ -1,5 +1,5 @@
 -- A value is one line at most, and so are octets.
-use Rattle.std.proofs.Common.{◌≡◌, ℕ, ◌^◌, List, [], ◌∷◌, get_or, codes, length, Option, Some, None, Result, Ok, Err, inl, inr, refl, sym, ap, ◌∙◌, subst, arith}
+use Rattle.std.proofs.Common.{◌≡◌, ℕ, ◌^◌, List, [], ◌∷◌, codes, length, Option, Some, None, Result, Ok, Err, inl, inr, refl, sym, ap, ◌∙◌, subst, arith}
 use Rattle.std.specs.Prelude.{option_copied}
 use Rattle.std.specs.List.{AllZip, each_same}
 use Rattle.std.specs.Int.{w64, from_be_bytes}
@@ -19,9 +19,9 @@ use Rattle.ledger_lines.specs.declared.faults.LineFault.{LineFault}
 use Rattle.ledger_lines.specs.declared.faults.LineFault.TheVariants.{NotALine, OutOfMemory}
 use Rattle.ledger_lines.specs.declared.reading.Line.{Line}
 use Rattle.ledger_lines.specs.declared.reading.Line.TheVariants.{Begin as begins, Entry as enters, Left as leaves, End as ends, Hidden as hides}
-use Rattle.ledger_lines.specs.Lines.{AreEach, HasArray, HasClient, HasLanes, HasOctets, HasRun, HasState, HasText, HasTime, IsAbout, IsBegin, IsEnd, IsEntry, IsFileBefore, IsLaneCount, IsLaneStart, IsLeft, IsLine, IsLineOf, MayHaveFile, MayHaveNumber, MayHaveSum, MayHaveTime, MayHaveWords, as_items, state_text}
+use Rattle.ledger_lines.specs.Lines.{AreEach, HasArray, HasClient, HasLanes, HasOctets, HasRun, HasState, HasTime, IsAbout, IsBegin, IsEnd, IsEntry, IsFileBefore, IsLaneCount, IsLaneStart, IsLeft, IsLine, IsLineOf, MayHaveFile, MayHaveNumber, MayHaveSum, MayHaveTime, MayHaveWords, as_items, state_text}
 use Rattle.ledger_lines.specs.Same.{GivesBack, IsAnswer, IsSameBegin, IsSameEnd, IsSameEntry, IsSameFile, IsSameFileIfAny, IsSameLeft, IsSameLine, IsSameRequest, IsSameStart}
-use Rattle.ledger_lines.proofs.Found.{one_number, one_text, same_some}
+use Rattle.ledger_lines.proofs.Found.{one_number, one_text, same_some, unlike}
 
 -- ---- what an object has at a key
 
@@ -185,12 +185,6 @@ one_end value one another h i = record {
 }
 
 -- ---- a line
-
--- types of different lengths, or that begin with different letters, are not both there
-unlike : (value : Json) (t u : List ℕ) → HasText (codes "type") value t → HasText (codes "type") value u → (length t ≡ length u) × (get_or t 0 0 ≡ get_or u 0 0)
-unlike value t u h i =
-    let same = one_text (codes "type") value t u h i in
-    (ap length same, ap (λ xs. get_or xs 0 0) same)
 
 pub one_line_of : (value : Json) (one another : Line) → IsLineOf value one → IsLineOf value another → IsSameLine one another
 one_line_of value (begins one) (begins another) h i = one_begin value one another h i

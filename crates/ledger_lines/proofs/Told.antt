@@ -13,7 +13,8 @@ use Rattle.json.specs.Json.{Json, string}
 use Rattle.json.specs.Find.{get}
 use Rattle.hex.specs.Hex.{IsBytes, encode_lower, lower_digits}
 use Rattle.hex.proofs.HexLemmas.{decode_of-encode_lower, length-encode_with}
-use Rattle.ledger_lines.specs.Lines.{AreEach, HasNumber, MayHaveNumber, HasOctets, HasArray, HasRun, HasClient, IsAbout, IsBegin, IsEnd, IsEntry, IsFileBefore, IsLaneCount, IsLaneStart, IsLeft, IsLine, IsValue, MayHaveFile, MayHaveSum, MayHaveTime, MayHaveWords}
+use Rattle.json_objects.specs.Written.{IsValue}
+use Rattle.ledger_lines.specs.Lines.{AreEach, HasNumber, MayHaveNumber, HasOctets, HasArray, HasRun, HasClient, IsAbout, IsBegin, IsEnd, IsEntry, IsFileBefore, IsLaneCount, IsLaneStart, IsLeft, IsLine, MayHaveFile, MayHaveSum, MayHaveTime, MayHaveWords}
 use Rattle.rad_config.proofs.Addresses.{address_from_text}
 use Rattle.rad_realms.specs.Address.{IsAddress}
 use Rattle.rad_realms.specs.Printed.{address_text}
@@ -23,7 +24,8 @@ use Rattle.rad_ledger.specs.declared.line_request.LineRequest.{LineRequest}
 use Rattle.ledger_lines.specs.declared.begin.Begin.{Begin}
 use Rattle.ledger_lines.specs.declared.begin.FileBefore.{FileBefore}
 use Rattle.ledger_lines.specs.declared.lane_start.LaneStart.{LaneStart}
-use Rattle.ledger_lines.specs.Written.{AreBytesIfAny, IsBelowIfAny, IsReadableBegin, IsReadableCount, IsReadableEnd, IsReadableEntry, IsReadableFile, IsReadableFileIfAny, IsReadableLeft, IsReadableRequest, IsReadableStart, IsSumIfAny, IsTimeIfAny, begin_slots, begin_value, count_slots, count_value, digits_if_any, end_slots, end_value, entry_slots, entry_value, file_slots, file_value, items_of, lane_slots, left_slots, left_value, number_value, octets_value, packet_slots, request_slots, start_slots, start_value, state_slots, text_if_any}
+use Rattle.json_objects.specs.Written.{items_of, number_value}
+use Rattle.ledger_lines.specs.Written.{AreBytesIfAny, IsBelowIfAny, IsReadableBegin, IsReadableCount, IsReadableEnd, IsReadableEntry, IsReadableFile, IsReadableFileIfAny, IsReadableLeft, IsReadableRequest, IsReadableStart, IsSumIfAny, IsTimeIfAny, begin_slots, begin_value, count_slots, count_value, digits_if_any, end_slots, end_value, entry_slots, entry_value, file_slots, file_value, lane_slots, left_slots, left_value, octets_value, packet_slots, request_slots, start_slots, start_value, state_slots, text_if_any}
 use Rattle.ledger_lines.specs.declared.end.End.{End}
 use Rattle.ledger_lines.specs.declared.end.LaneCount.{LaneCount}
 use Rattle.ledger_lines.specs.declared.reading.Line.TheVariants.{Begin as begins, Entry as enters, Left as leaves, End as ends}

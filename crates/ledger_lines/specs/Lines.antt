@@ -3,11 +3,11 @@ use Rattle.std.specs.Prelude.{◌≡◌, ℕ, ◌<◌, ◌≤◌, ◌*◌, ◌^�
 use Rattle.std.specs.List.{All, Contains}
 use Rattle.std.specs.Int.{w64, from_be_bytes}
 use Rattle.std.specs.Char.{is_ascii_digit}
-use Rattle.std.specs.Str.{IsUtf8}
 use Rattle.std.specs.Str.Parse.{IsNumeral, digits_value, without_leading_plus}
-use Rattle.json.specs.Json.{Json, null, boolean, string, number, array, object, Items, no_items, item, document}
+use Rattle.json.specs.Json.{Json, null, boolean, string, number, array, object, Items, no_items, item}
 use Rattle.json.specs.Find.{get}
-use Rattle.json.specs.Strict.{keys, HasUniqueKeys}
+use Rattle.json.specs.Strict.{keys}
+use Rattle.json_objects.specs.Written.{IsValue}
 use Rattle.hex.specs.Hex.{decode_of}
 use Rattle.rad_realms.specs.Address.{address_in}
 use Rattle.rad_ledger.specs.declared.entry.Entry.{Entry}
@@ -263,12 +263,6 @@ IsLineOf value (enters entry) = IsEntry value entry
 IsLineOf value (leaves left) = IsLeft value left
 IsLineOf value (ends end) = IsEnd value end
 IsLineOf value (hides hidden) = IsHidden value hidden
-
--- Octets that are a value, in which no object has a key twice.
-pub record IsValue (octets : List ℕ) (value : Json) : Type 0 where
-  pub characters : IsUtf8 octets
-  pub read : document octets ≡ Some value
-  pub once : HasUniqueKeys value
 
 -- Octets that are a line of a ledger, of at most so many.
 pub record IsLine (octets : List ℕ) (line : Line) : Type 0 where

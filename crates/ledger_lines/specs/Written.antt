@@ -1,55 +1,25 @@
--- What a call that writes a line leaves, and which value of JSON the line of each kind is.
-use Rattle.std.specs.Prelude.{◌≡◌, ℕ, ◌<◌, ◌^◌, List, [], ◌∷◌, ◌++◌, length, codes, decimal, cond, Option, Some, None, option_copied, option_map, is_some, ⊤}
+-- Which value of JSON the line of each kind is, and what a reader asks of what it is made of (own).
+use Rattle.std.specs.Prelude.{◌≡◌, ℕ, ◌<◌, ◌^◌, List, [], ◌∷◌, ◌++◌, length, codes, cond, Option, Some, None, option_copied, option_map, is_some, ⊤}
 use Rattle.std.specs.List.{All}
 use Rattle.std.specs.Int.{w64, to_be_bytes}
-use Rattle.std.specs.Str.{IsUtf8, is_utf8}
-use Rattle.json.specs.Json.{Json, number, string, array, object, Items, no_items, item, Members, no_members, member}
+use Rattle.std.specs.Str.{is_utf8}
+use Rattle.json.specs.Json.{Json, string, array}
 use Rattle.hex.specs.Hex.{IsBytes, encode_lower}
 use Rattle.rad_realms.specs.Address.{IsAddress}
 use Rattle.rad_realms.specs.Printed.{address_text}
 use Rattle.rad_ledger.specs.declared.entry.Entry.{Entry}
 use Rattle.rad_ledger.specs.declared.left.Left.{Left}
 use Rattle.rad_ledger.specs.declared.line_request.LineRequest.{LineRequest}
-use Rattle.ledger_lines.specs.Lines.{IsTime, IsValue, state_text}
+use Rattle.json_objects.specs.Written.{items_of, number_value, object_of}
+pub use Rattle.json_objects.specs.Written.{HasLineBehind, HasValueBehind}
+use Rattle.ledger_lines.specs.Lines.{IsTime, state_text}
 use Rattle.ledger_lines.specs.declared.begin.Begin.{Begin}
 use Rattle.ledger_lines.specs.declared.end.End.{End}
 use Rattle.ledger_lines.specs.declared.begin.FileBefore.{FileBefore}
 use Rattle.ledger_lines.specs.declared.end.LaneCount.{LaneCount}
 use Rattle.ledger_lines.specs.declared.lane_start.LaneStart.{LaneStart}
 
--- Octets that are those before, and a line behind them, which is text, with its line end.
-pub record HasLineBehind (before all : List ℕ) : Type 0 where
-  pub line : List ℕ
-  pub text : IsUtf8 line
-  pub are : all ≡ before ++ (line ++ 10 ∷ [])
-
--- Octets that are those before, and behind them, with its line end, a line that is this value.
-pub record HasValueBehind (before all : List ℕ) (value : Json) : Type 0 where
-  pub line : List ℕ
-  pub its_value : IsValue line value
-  pub are : all ≡ before ++ (line ++ 10 ∷ [])
-
--- The members of an object, in order: each key with its value, and without those that have none.
-abbrev pub member_if : List ℕ → Option Json → Members → Members
-member_if key None others = others
-member_if key (Some value) others = member key value others
-
-abbrev pub present : List (List ℕ × Option Json) → Members
-present [] = no_members
-present (slot ∷ slots) = member_if slot.0 slot.1 (present slots)
-
-abbrev pub object_of : List (List ℕ × Option Json) → Json
-object_of slots = object (present slots)
-
--- A list, with the value of each of its items.
-abbrev pub items_of : {X : Type 0} → (X → Json) → List X → Items
-items_of value [] = no_items
-items_of value (x ∷ xs) = item (value x) (items_of value xs)
-
--- A number, in decimal; and octets, as two hexadecimal digits each.
-abbrev pub number_value : ℕ → Json
-number_value its = number (decimal its)
-
+-- Octets, as two hexadecimal digits each.
 abbrev pub octets_value : List ℕ → Json
 octets_value octets = string (encode_lower octets)
 

@@ -4,7 +4,7 @@ ghost use Rattle.std.specs.Prelude.{MatchResult, OnOk};
 ghost use Rattle.json.specs.Value.{value_view};
 ghost use Rattle.rad_ledger.specs.declared.line_request.LineRequest.{LineRequest as TheRequest};
 ghost use Rattle.ledger_lines.specs.Lines.{Denies, IsAbout};
-ghost use Rattle.ledger_lines.specs.internal.Adding.{AddsSlots, Opens};
+ghost use Rattle.json_objects.specs.Adding.{AddsSlots, Opens};
 ghost use Rattle.ledger_lines.specs.Written.{lane_slots, request_slots};
 
 use crate::faults::LineFault;
@@ -13,8 +13,9 @@ use crate::values::{
     authenticator_at, client_at, count_at, number_at, octet_at, run_at, short_at, text_at, time_at,
     words_at,
 };
-use crate::writing::{address, digits, first_members, number, number_if_any, text, widened, words};
+use crate::writing::{address, digits, first_members, number_if_any, widened, words};
 use json::{Value, Writer};
+use json_objects::{number, text};
 use rad_ledger::LineRequest;
 use std::alloc::{AllocError, Global};
 

@@ -8,8 +8,9 @@ ghost use Rattle.ledger_lines.specs.declared.begin.FileBefore.{FileBefore as The
 ghost use Rattle.ledger_lines.specs.Lines.{AreEach, Denies, HasLanes, HasText, IsBegin, IsFileBefore, IsLaneStart, MayHaveFile};
 ghost use Rattle.json.specs.Json.{array};
 ghost use Rattle.json.specs.Tree.{json_tokens};
-ghost use Rattle.ledger_lines.specs.internal.Adding.{Adds, AddsSlots};
-ghost use Rattle.ledger_lines.specs.Written.{HasLineBehind, HasValueBehind, begin_value, file_value, items_of, start_value};
+ghost use Rattle.json_objects.specs.Adding.{Adds, AddsSlots};
+ghost use Rattle.json_objects.specs.Written.{HasLineBehind, HasValueBehind, items_of};
+ghost use Rattle.ledger_lines.specs.Written.{begin_value, file_value, start_value};
 
 use crate::faults::LineFault;
 use crate::lane_start::LaneStart;
@@ -17,8 +18,9 @@ use crate::values::{
     has_only, lanes_at, number_at, push, run_at, serial_at, short_at, sum_at, sum_if_any_at,
     text_at, time_at,
 };
-use crate::writing::{close_line, digits, digits_if_any, first_members, number, text};
+use crate::writing::{digits, digits_if_any, first_members};
 use json::{Value, Writer};
+use json_objects::{close_line, number, text};
 use std::alloc::{AllocError, Global};
 
 /// A file of another run, as the first file of a run names it.
@@ -81,6 +83,7 @@ pub(crate) fn begin_of<'a>(alloc: Global, value: &Value<'a>) -> Result<Begin<'a>
     })
 }
 
+#[tactic(auto, using(crate::proofs::Lines::file_found, crate::proofs::Lines::no_file, crate::proofs::Lines::no_file_in))]
 fn before_at<'a>(value: &Value<'a>) -> Result<Option<FileBefore<'a>>, LineFault>
     ensures { MatchResult result (λ before. MayHaveFile (value_view value.now) before) (λ fault. Denies fault ((before : Option TheFile) × MayHaveFile (value_view value.now) before)) }
 {
@@ -90,6 +93,7 @@ fn before_at<'a>(value: &Value<'a>) -> Result<Option<FileBefore<'a>>, LineFault>
     }
 }
 
+#[tactic(auto, using(crate::proofs::Lines::file_parts))]
 fn file_of<'a>(value: &Value<'a>) -> Result<FileBefore<'a>, LineFault>
     ensures { MatchResult result (λ file. IsFileBefore (value_view value.now) file) (λ fault. Denies fault ((file : TheFile) × IsFileBefore (value_view value.now) file)) }
 {
@@ -123,6 +127,7 @@ fn starts_of<'a>(alloc: Global, values: &[Value<'a>]) -> Result<Vec<LaneStart<'a
     Ok(starts)
 }
 
+#[tactic(auto, using(crate::proofs::Lines::start_parts))]
 fn start_of<'a>(value: &Value<'a>) -> Result<LaneStart<'a>, LineFault>
     ensures { MatchResult result (λ start. IsLaneStart (value_view value.now) start) (λ fault. Denies fault ((start : TheStart) × IsLaneStart (value_view value.now) start)) }
 {

@@ -5,8 +5,9 @@ ghost use Rattle.json.specs.Value.{items_view, value_view};
 ghost use Rattle.ledger_lines.specs.Lines.{AreEach, Denies, HasLanes, HasText, IsEnd, IsLaneCount};
 ghost use Rattle.json.specs.Json.{array};
 ghost use Rattle.json.specs.Tree.{json_tokens};
-ghost use Rattle.ledger_lines.specs.internal.Adding.{Adds};
-ghost use Rattle.ledger_lines.specs.Written.{HasLineBehind, HasValueBehind, count_value, end_value, items_of};
+ghost use Rattle.json_objects.specs.Adding.{Adds};
+ghost use Rattle.json_objects.specs.Written.{HasLineBehind, HasValueBehind, items_of};
+ghost use Rattle.ledger_lines.specs.Written.{count_value, end_value};
 ghost use Rattle.ledger_lines.specs.declared.end.End.{End as TheEnd};
 ghost use Rattle.ledger_lines.specs.declared.end.LaneCount.{LaneCount as TheCount};
 
@@ -14,8 +15,9 @@ use crate::faults::LineFault;
 use crate::values::{
     amount_at, has_only, lanes_at, number_at, push, run_at, short_at, sum_if_any_at, time_at,
 };
-use crate::writing::{close_line, digits_if_any, first_members, number, number_if_any};
+use crate::writing::{digits_if_any, first_members, number_if_any};
 use json::{Value, Writer};
+use json_objects::{close_line, number};
 use std::alloc::{AllocError, Global};
 
 /// A lane, as the end line counts it.
@@ -44,6 +46,7 @@ pub struct End<'a> {
     pub lanes: Vec<LaneCount>,
 }
 
+#[tactic(auto, using(crate::proofs::Lines::end_parts))]
 pub(crate) fn end_of<'a>(alloc: Global, value: &Value<'a>) -> Result<End<'a>, LineFault>
     requires { HasText (codes "type") (value_view value.now) (codes "end") }
     ensures { MatchResult result (λ end. IsEnd (value_view value.now) end) (λ fault. Denies fault ((end : TheEnd) × IsEnd (value_view value.now) end)) }
@@ -80,6 +83,7 @@ fn counts_of(alloc: Global, values: &[Value<'_>]) -> Result<Vec<LaneCount>, Line
     Ok(counts)
 }
 
+#[tactic(auto, using(crate::proofs::Lines::count_parts))]
 fn count_of(value: &Value<'_>) -> Result<LaneCount, LineFault>
     ensures { MatchResult result (λ count. IsLaneCount (value_view value.now) count) (λ fault. Denies fault ((count : TheCount) × IsLaneCount (value_view value.now) count)) }
 {

@@ -5,15 +5,17 @@ ghost use Rattle.json.specs.Value.{value_view};
 ghost use Rattle.rad_ledger.specs.declared.entry.Entry.{Entry as TheEntry};
 ghost use Rattle.ledger_lines.specs.Lines.{Denies, HasText, IsEntry};
 ghost use Rattle.json.specs.Tree.{json_tokens};
-ghost use Rattle.ledger_lines.specs.internal.Adding.{Adds};
-ghost use Rattle.ledger_lines.specs.Written.{HasLineBehind, HasValueBehind, entry_value};
+ghost use Rattle.json_objects.specs.Adding.{Adds};
+ghost use Rattle.json_objects.specs.Written.{HasLineBehind, HasValueBehind};
+ghost use Rattle.ledger_lines.specs.Written.{entry_value};
 
 use crate::about::{about_at, lane_members, request_members};
 use crate::faults::LineFault;
 use crate::reading::Octets;
 use crate::values::{has_only, octets_at, serial_at};
-use crate::writing::{close_line, digits, number};
+use crate::writing::digits;
 use json::{Value, Writer};
+use json_objects::{close_line, number};
 use rad_ledger::Entry;
 use std::alloc::{AllocError, Global};
 

@@ -15,6 +15,7 @@ pub struct Hidden {
     pub sum: [u8; 32],
 }
 
+#[tactic(auto, using(crate::proofs::Lines::hidden_sum))]
 pub(crate) fn hidden_of(value: &Value<'_>) -> Result<Hidden, LineFault>
     requires { HasText (codes "type") (value_view value.now) (codes "hidden") }
     ensures { MatchResult result (λ hidden. IsHidden (value_view value.now) hidden) (λ fault. Denies fault ((hidden : TheHidden) × IsHidden (value_view value.now) hidden)) }

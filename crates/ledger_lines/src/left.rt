@@ -5,16 +5,18 @@ ghost use Rattle.json.specs.Value.{value_view};
 ghost use Rattle.rad_ledger.specs.declared.left.Left.{Left as TheLeft};
 ghost use Rattle.ledger_lines.specs.Lines.{Denies, HasText, IsLeft, state_text as the_state_text, HasState};
 ghost use Rattle.json.specs.Tree.{json_tokens};
-ghost use Rattle.ledger_lines.specs.internal.Adding.{Adds};
-ghost use Rattle.ledger_lines.specs.Written.{HasLineBehind, HasValueBehind, left_value};
+ghost use Rattle.json_objects.specs.Adding.{Adds};
+ghost use Rattle.json_objects.specs.Written.{HasLineBehind, HasValueBehind};
+ghost use Rattle.ledger_lines.specs.Written.{left_value};
 ghost use Rattle.rad_desk.specs.declared.leaving.LeftState.{LeftState as TheState};
 
 use crate::about::{about_at, lane_members, request_members};
 use crate::faults::LineFault;
 use crate::reading::Octets;
 use crate::values::{count_at, has_only, octets_at, text_at, time_if_any_at};
-use crate::writing::{close_line, digits, number_if_any, text, text_if_any, widened};
+use crate::writing::{digits, number_if_any, text_if_any, widened};
 use json::{Value, Writer};
+use json_objects::{close_line, text};
 use rad_ledger::{Left, LeftState};
 use std::alloc::{AllocError, Global};
 
@@ -65,6 +67,7 @@ pub(crate) fn left_of<'a>(value: &Value<'a>, room: &'a mut Octets) -> Result<Lef
     })
 }
 
+#[tactic(auto, using(crate::proofs::Parts::no_state, crate::proofs::Parts::no_state_text))]
 pub(crate) fn state_at(value: &Value<'_>) -> Result<LeftState, LineFault>
     ensures { MatchResult result (λ state. HasState (value_view value.now) state) (λ fault. Denies fault ((state : TheState) × HasState (value_view value.now) state)) }
 {

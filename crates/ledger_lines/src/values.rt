@@ -3,7 +3,8 @@
 ghost use Rattle.std.specs.Prelude.{◌≡◌, ◌++◌, [], ◌∷◌, IfErr, List, MatchResult, OnOk, Option, option_copied, option_map, ◌<◌, ◌^◌, ◌↔◌, ℕ, length, map, MatchOption, IsTrue};
 ghost use Rattle.json.specs.Value.{items_view, value_view, members_view};
 ghost use Rattle.ledger_lines.specs.declared.faults.LineFault.TheVariants.{OutOfMemory};
-ghost use Rattle.ledger_lines.specs.Lines.{Denies, HasText, as_items, HasArray, HasAuthenticator, HasClient, HasList, HasNumber, HasOctets, HasOnly, HasRun, HasTime, HasTimeForm, has_form, IsTime, IsValue, MayHaveNumber, MayHaveSum, MayHaveTime, MayHaveWords};
+ghost use Rattle.json_objects.specs.Written.{IsValue};
+ghost use Rattle.ledger_lines.specs.Lines.{Denies, HasText, as_items, HasArray, HasAuthenticator, HasClient, HasList, HasNumber, HasOctets, HasOnly, HasRun, HasTime, HasTimeForm, has_form, IsTime, MayHaveNumber, MayHaveSum, MayHaveTime, MayHaveWords};
 ghost use Rattle.json.specs.Json.{Items, Json};
 ghost use Rattle.std.specs.List.{All, Contains};
 ghost use Rattle.json.specs.Strict.{keys};
@@ -138,6 +139,7 @@ pub(crate) fn octet_at(value: &Value<'_>, key: &str) -> Result<u8, LineFault>
 }
 
 /// The octets whose digits stand at a key, in this room.
+#[tactic(auto, using(crate::proofs::Found::octets_found, crate::proofs::Found::no_octets, crate::proofs::Found::no_octets_text))]
 pub(crate) fn octets_at<'r>(
     value: &Value<'_>,
     key: &str,
@@ -191,6 +193,7 @@ pub(crate) fn sum_at(value: &Value<'_>, key: &str) -> Result<[u8; 32], LineFault
     }
 }
 
+#[tactic(auto, using(crate::proofs::Parts::sum_none, crate::proofs::Parts::no_sum_if_any))]
 pub(crate) fn sum_if_any_at(value: &Value<'_>, key: &str) -> Result<Option<[u8; 32]>, LineFault>
     ensures { MatchResult result (λ sum. MayHaveSum key.now (value_view value.now) sum) (λ fault. Denies fault ((sum : Option (List ℕ)) × MayHaveSum key.now (value_view value.now) sum)) }
 {
@@ -212,6 +215,7 @@ pub(crate) fn time_at<'a>(value: &Value<'a>, key: &str) -> Result<&'a str, LineF
     }
 }
 
+#[tactic(auto, using(crate::proofs::Parts::time_none, crate::proofs::Parts::no_time_if_any))]
 pub(crate) fn time_if_any_at<'a>(value: &Value<'a>, key: &str) -> Result<Option<&'a str>, LineFault>
     ensures { MatchResult result (λ time. MayHaveTime key.now (value_view value.now) (option_copied time)) (λ fault. Denies fault ((time : Option (List ℕ)) × MayHaveTime key.now (value_view value.now) time)) }
 {
@@ -292,6 +296,7 @@ pub(crate) fn words_at<'a>(
     }
 }
 
+#[tactic(auto, using(crate::proofs::Parts::count_none, crate::proofs::Parts::count_found, crate::proofs::Parts::no_count, crate::proofs::Parts::no_count_number))]
 pub(crate) fn count_at(value: &Value<'_>, key: &str) -> Result<Option<u32>, LineFault>
     ensures { MatchResult result (λ its. MayHaveNumber key.now (2 ^ 32) (value_view value.now) its) (λ fault. Denies fault ((its : Option ℕ) × MayHaveNumber key.now (2 ^ 32) (value_view value.now) its)) }
 {
@@ -304,6 +309,7 @@ pub(crate) fn count_at(value: &Value<'_>, key: &str) -> Result<Option<u32>, Line
     }
 }
 
+#[tactic(auto, using(crate::proofs::Parts::count_none, crate::proofs::Parts::no_amount))]
 pub(crate) fn amount_at(value: &Value<'_>, key: &str) -> Result<Option<u64>, LineFault>
     ensures { MatchResult result (λ its. MayHaveNumber key.now (2 ^ 64) (value_view value.now) its) (λ fault. Denies fault ((its : Option ℕ) × MayHaveNumber key.now (2 ^ 64) (value_view value.now) its)) }
 {

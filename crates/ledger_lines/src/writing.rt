@@ -1,22 +1,15 @@
 //! The members of an object, as they are written.
 
-ghost use Rattle.std.specs.Prelude.{◌≡◌, [], ◌∷◌, OnOk, IfOk, Some, option_copied, option_map};
+ghost use Rattle.std.specs.Prelude.{◌≡◌, [], ◌∷◌, OnOk, Some, option_copied, option_map};
 ghost use Rattle.json.specs.Json.{string};
-ghost use Rattle.ledger_lines.specs.internal.Adding.{AddsSlots, EndsLine, Opens};
-ghost use Rattle.ledger_lines.specs.Written.{first_slots, number_value, octets_value, words_slots};
+ghost use Rattle.json_objects.specs.Adding.{AddsSlots, Opens};
+ghost use Rattle.json_objects.specs.Written.{number_value};
+ghost use Rattle.ledger_lines.specs.Written.{first_slots, octets_value, words_slots};
 ghost use Rattle.rad_realms.specs.Printed.{address_text};
 
 use json::Writer;
+use json_objects::{number, text};
 use std::alloc::{AllocError, Global};
-
-/// Returns what these octets are, and the line that was written behind them, with its line end.
-pub(crate) fn close_line(writer: Writer) -> Result<Vec<u8>, AllocError>
-    ensures { IfOk result (λ all. EndsLine writer all.items) }
-{
-    let mut out = writer.into_inner();
-    out.push(b'\n')?;
-    Ok(out)
-}
 
 /// Begins the object of a line of a type, with its run and its moment.
 pub(crate) fn first_members(
@@ -32,20 +25,6 @@ pub(crate) fn first_members(
     text(writer, "type", kind)?;
     digits(alloc, writer, "run", &run.to_be_bytes())?;
     text(writer, "time", time)
-}
-
-pub(crate) fn text(writer: &mut Writer, key: &str, value: &str) -> Result<(), AllocError>
-    ensures { OnOk result (AddsSlots writer.old writer.new ((key.now, (Some (string value.now))) ∷ [])) }
-{
-    writer.key(key)?;
-    writer.string(value)
-}
-
-pub(crate) fn number(writer: &mut Writer, key: &str, value: u64) -> Result<(), AllocError>
-    ensures { OnOk result (AddsSlots writer.old writer.new ((key.now, (Some (number_value value))) ∷ [])) }
-{
-    writer.key(key)?;
-    writer.u64(value)
 }
 
 pub(crate) fn number_if_any(

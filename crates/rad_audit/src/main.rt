@@ -29,19 +29,15 @@ ghost use Rattle.rad_audit.specs.Statuses.{IsStatus, status_of};
 use auditing::audit_files;
 use faults::{Fault, written};
 use printing::{NO_FINDINGS, Outputs};
-use rad_files::{read_at_most, read_configuration};
+use rad_files::{LoadFault, MOST_FILE_OCTETS, load_configuration};
 use rad_realms::Config;
 use std::alloc::{AllocGlobal, Global};
 use std::env::{self, Env};
-use std::fs;
 use std::io::{self, BufWriter, Error, ErrorKind, Print, Write};
 use std::process::ExitCode;
 use std::rt::{Files, Runtime};
 use streams::Stream;
 use words::{Wanted, Words, read_words};
-
-/// The most octets of a configuration's file.
-const MOST_FILE_OCTETS: u64 = 1_048_576;
 
 fn main(rt: HostRuntime) -> ExitCode {
     let status = match obey_words(&rt) {
@@ -136,17 +132,10 @@ where
     ensures config { IfOk result (λ config. (text : List ℕ) × (length text ≤ MOST_FILE_OCTETS) × ReadsOctets text (Ok config)) }
     ensures fault { IfErr result (λ fault. 2 ≤ status_of fault) }
 {
-    let file = match fs::open(rt, path) {
-        Ok(file) => file,
-        Err(error) => return Err(Fault::of_file(alloc, path, &error)),
-    };
-    let text = match read_at_most(alloc, file, MOST_FILE_OCTETS) {
-        Ok(text) => text,
-        Err(error) => return Err(Fault::of_file(alloc, path, &error)),
-    };
-    match read_configuration(alloc, text.as_slice()) {
+    match load_configuration(rt, alloc, path) {
         Ok(config) => Ok(config),
-        Err(fault) => Err(Fault::Configuration(fault)),
+        Err(LoadFault::File(error)) => Err(Fault::of_file(alloc, path, &error)),
+        Err(LoadFault::Configuration(fault)) => Err(Fault::Configuration(fault)),
     }
 }
 

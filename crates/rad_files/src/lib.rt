@@ -1,4 +1,4 @@
-//! What is read as a whole: a file up to a bound ([`read_at_most`]), and octets as a configuration ([`read_configuration`]).
+//! What is read as a whole: a file up to a bound ([`read_at_most`]), and a configuration ([`load_configuration`], [`read_configuration`]).
 //! `specs/Configurations.antt` defines which octets are one.
 #![tactic(auto)]
 
@@ -6,4 +6,4 @@ mod bounded;
 mod configuration;
 
 pub use bounded::read_at_most;
-pub use configuration::read_configuration;
+pub use configuration::{LoadFault, MOST_FILE_OCTETS, load_configuration, read_configuration};

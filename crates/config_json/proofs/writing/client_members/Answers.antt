@@ -2,7 +2,7 @@ use Rattle.std.proofs.Common.{ℕ, List, [], ◌∷◌, Some, codes, ap}
 use Rattle.json.specs.Json.{string}
 use Rattle.rad_realms.specs.Printed.{address_text}
 use Rattle.config_json.specs.Written.{client_slots, secret_slots}
-use Rattle.config_json.proofs.Adding.{opened, opens_then, closes, slots_are}
+use Rattle.json_objects.proofs.Adding.{opened, opens_then, closes, slots_are}
 use Rattle.config_json.proofs.writing.client_members.Goals as goal
 
 pub returns : goal.returns

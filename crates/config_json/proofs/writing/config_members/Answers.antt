@@ -3,8 +3,9 @@ use Rattle.json.specs.Json.{array, string}
 use Rattle.rad_config.specs.declared.reading.address.Endpoint.{Endpoint}
 use Rattle.rad_realms.specs.Configuration.{HomeEntry}
 use Rattle.rad_realms.specs.Printed.{endpoint_text}
-use Rattle.config_json.specs.Written.{client_value, config_slots, home_value, items_of, name_at, number_value, realm_value}
-use Rattle.config_json.proofs.Adding.{opened, opens_then, closes, listed, slots_are}
+use Rattle.json_objects.specs.Written.{items_of, number_value}
+use Rattle.config_json.specs.Written.{client_value, config_slots, home_value, name_at, realm_value}
+use Rattle.json_objects.proofs.Adding.{opened, opens_then, closes, listed, slots_are}
 use Rattle.config_json.proofs.writing.config_members.Goals as goal
 
 pub returns : goal.returns

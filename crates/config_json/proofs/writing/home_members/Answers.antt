@@ -4,7 +4,7 @@ use Rattle.rad_config.specs.declared.limits.LimitNumbers.{LimitNumbers}
 use Rattle.rad_config.specs.declared.reading.address.Endpoint.{Endpoint}
 use Rattle.rad_realms.specs.Printed.{endpoint_text}
 use Rattle.config_json.specs.Written.{home_slots, limits_slots, secret_slots}
-use Rattle.config_json.proofs.Adding.{opened, opens_then, closes, slots_are}
+use Rattle.json_objects.proofs.Adding.{opened, opens_then, closes, slots_are}
 use Rattle.config_json.proofs.writing.home_members.Goals as goal
 
 pub returns : goal.returns

@@ -1,6 +1,6 @@
 use Rattle.std.proofs.Common.{[], ◌∷◌, Some, codes}
-use Rattle.config_json.specs.Written.{number_value}
-use Rattle.config_json.proofs.Adding.{slots_then, slots_last}
+use Rattle.json_objects.specs.Written.{number_value}
+use Rattle.json_objects.proofs.Adding.{slots_then, slots_last}
 use Rattle.config_json.proofs.writing.limits.Goals as goal
 
 pub returns : goal.returns

@@ -1,7 +1,7 @@
 use Rattle.std.proofs.Common.{ℕ, List, [], ◌∷◌, Some, codes, ap}
 use Rattle.json.specs.Json.{string}
 use Rattle.config_json.specs.Written.{name_at, realm_slots}
-use Rattle.config_json.proofs.Adding.{opened, opens_then, closes, slots_are}
+use Rattle.json_objects.proofs.Adding.{opened, opens_then, closes, slots_are}
 use Rattle.config_json.proofs.writing.realm_members.Goals as goal
 
 pub returns : goal.returns

@@ -1,8 +1,8 @@
 use Rattle.std.proofs.Common.{◌∷◌, take}
 use Rattle.json.specs.Token.{begin_array}
 use Rattle.config_json.specs.Written.{realm_value}
-use Rattle.config_json.specs.internal.Adding.{Adds}
-use Rattle.config_json.proofs.Adding.{each_tokens}
+use Rattle.json_objects.specs.Adding.{Adds}
+use Rattle.json_objects.proofs.Adding.{each_tokens}
 use Rattle.config_json.proofs.writing.write_realms.Given as goal
 
 abbrev pub invariant-loop-realm : goal.invariant-loop-realm

@@ -1,5 +1,6 @@
 use Rattle.std.proofs.Common.{codes}
-use Rattle.ledger_lines.proofs.Adding.{opens_then, opens_last, number_last}
+use Rattle.json_objects.proofs.Adding.{opens_then, opens_last}
+use Rattle.ledger_lines.proofs.Adding.{number_last}
 use Rattle.ledger_lines.proofs.about.lane_members.Goals as goal
 
 pub returns : goal.returns

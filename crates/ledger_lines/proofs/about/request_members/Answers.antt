@@ -1,4 +1,5 @@
-use Rattle.ledger_lines.proofs.Adding.{slots_then, slots_last, number_is, number_if_is}
+use Rattle.json_objects.proofs.Adding.{slots_then, slots_last}
+use Rattle.ledger_lines.proofs.Adding.{number_is, number_if_is}
 use Rattle.ledger_lines.proofs.about.request_members.Goals as goal
 
 pub returns : goal.returns

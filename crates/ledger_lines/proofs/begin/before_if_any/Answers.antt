@@ -2,8 +2,8 @@ use Rattle.std.proofs.Common.{[], ◌∷◌, codes, option_map, Option, sym, sub
 use Rattle.std.specs.Prelude.{OnOk}
 use Rattle.ledger_lines.specs.Written.{file_value}
 use Rattle.ledger_lines.specs.declared.begin.FileBefore.{FileBefore}
-use Rattle.ledger_lines.specs.internal.Adding.{AddsSlots}
-use Rattle.ledger_lines.proofs.Adding.{keyed_last}
+use Rattle.json_objects.specs.Adding.{AddsSlots}
+use Rattle.json_objects.proofs.Adding.{keyed_last}
 use Rattle.ledger_lines.proofs.begin.before_if_any.Goals as goal
 
 pub returns : goal.returns

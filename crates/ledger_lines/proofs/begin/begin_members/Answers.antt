@@ -1,6 +1,6 @@
 use Rattle.std.proofs.Common.{codes}
 use Rattle.ledger_lines.specs.Written.{begin_slots, start_value}
-use Rattle.ledger_lines.proofs.Adding.{listed, opens_then, closes}
+use Rattle.json_objects.proofs.Adding.{listed, opens_then, closes}
 use Rattle.ledger_lines.proofs.begin.begin_members.Goals as goal
 
 pub returns : goal.returns

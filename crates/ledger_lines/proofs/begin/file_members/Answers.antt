@@ -1,5 +1,5 @@
 use Rattle.ledger_lines.specs.Written.{file_slots}
-use Rattle.ledger_lines.proofs.Adding.{opened, opens_then, closes}
+use Rattle.json_objects.proofs.Adding.{opened, opens_then, closes}
 use Rattle.ledger_lines.proofs.begin.file_members.Goals as goal
 
 pub returns : goal.returns

@@ -1,6 +1,6 @@
 use Rattle.std.proofs.Common.{codes}
 use Rattle.ledger_lines.specs.Written.{count_value, end_slots}
-use Rattle.ledger_lines.proofs.Adding.{listed, opens_then, closes}
+use Rattle.json_objects.proofs.Adding.{listed, opens_then, closes}
 use Rattle.ledger_lines.proofs.end.end_members.Goals as goal
 
 pub returns : goal.returns

@@ -1,5 +1,6 @@
 use Rattle.ledger_lines.specs.Written.{count_slots}
-use Rattle.ledger_lines.proofs.Adding.{opened, opens_then, closes, number_is}
+use Rattle.json_objects.proofs.Adding.{opened, opens_then, closes}
+use Rattle.ledger_lines.proofs.Adding.{number_is}
 use Rattle.ledger_lines.proofs.end.lane_count.Goals as goal
 
 pub returns : goal.returns

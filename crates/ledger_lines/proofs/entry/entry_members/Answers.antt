@@ -1,5 +1,5 @@
 use Rattle.ledger_lines.specs.Written.{entry_slots}
-use Rattle.ledger_lines.proofs.Adding.{opens_then, closes}
+use Rattle.json_objects.proofs.Adding.{opens_then, closes}
 use Rattle.ledger_lines.proofs.entry.entry_members.Goals as goal
 
 pub returns : goal.returns

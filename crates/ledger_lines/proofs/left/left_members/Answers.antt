@@ -1,6 +1,7 @@
 use Rattle.ledger_lines.specs.Lines.{state_text}
 use Rattle.ledger_lines.specs.Written.{left_slots}
-use Rattle.ledger_lines.proofs.Adding.{opens_then, closes, number_if_is, string_is}
+use Rattle.json_objects.proofs.Adding.{opens_then, closes}
+use Rattle.ledger_lines.proofs.Adding.{number_if_is, string_is}
 use Rattle.ledger_lines.proofs.left.left_members.Goals as goal
 
 pub returns : goal.returns

@@ -1,5 +1,6 @@
 use Rattle.std.specs.Int.{w64, to_be_bytes}
-use Rattle.ledger_lines.proofs.Adding.{opened, opens_then, opens_last, octets_are}
+use Rattle.json_objects.proofs.Adding.{opened, opens_then, opens_last}
+use Rattle.ledger_lines.proofs.Adding.{octets_are}
 use Rattle.ledger_lines.proofs.writing.first_members.Goals as goal
 
 pub returns : goal.returns

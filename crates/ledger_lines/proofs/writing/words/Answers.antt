@@ -2,7 +2,7 @@ use Rattle.std.proofs.Common.{List, ℕ, Option, sym, subst}
 use Rattle.std.specs.Prelude.{OnOk, option_copied}
 use Rattle.std.specs.Borrow.{Bor}
 use Rattle.ledger_lines.specs.Written.{words_slots}
-use Rattle.ledger_lines.specs.internal.Adding.{AddsSlots}
+use Rattle.json_objects.specs.Adding.{AddsSlots}
 use Rattle.ledger_lines.proofs.Adding.{words_digits, words_text}
 use Rattle.ledger_lines.proofs.writing.words.Goals as goal
 

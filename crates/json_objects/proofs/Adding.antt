@@ -1,15 +1,13 @@
--- What one call after the other adds to the tokens of a writer.
-use Rattle.std.proofs.Common.{◌≡◌, ℕ, ◌+◌, ◌<◌, ◌≤◌, List, [], ◌∷◌, ◌++◌, length, take, Bool, true, false, cond, option_map, Option, Some, None, Result, Ok, Err, refl, sym, ap, ◌∙◌, subst, append_assoc, append-nil}
+-- What one call after the other adds to the tokens of a writer. Proofs of the crates above cite these.
+use Rattle.std.proofs.Common.{◌≡◌, ℕ, ◌+◌, ◌<◌, ◌≤◌, List, [], ◌∷◌, ◌++◌, length, get_or, take, Option, Some, None, Result, Ok, Err, refl, sym, ap, ◌∙◌, subst, append_assoc, append-nil}
 use Rattle.std.specs.Prelude.{OnOk}
-use Rattle.std.specs.Str.{IsUtf8, is_utf8}
-use Rattle.std.proofs.lemmas.Str.{IsUtf8-from_is_utf8, is_utf8-from_IsUtf8}
-use Rattle.std.proofs.lemmas.List.{take_all}
-use Rattle.json.specs.Json.{Json, array, string}
+use Rattle.std.proofs.lemmas.List.{take_all, take_more}
+use Rattle.json.specs.Json.{Json, array}
 use Rattle.json.specs.Token.{Token, begin_array, end_array, begin_object, end_object, key}
 use Rattle.json.specs.Tree.{json_tokens, items_tokens, members_tokens}
 use Rattle.json.specs.Written.{Written, Writes}
-use Rattle.config_json.specs.Written.{present, object_of, items_of, number_value}
-use Rattle.config_json.specs.internal.Adding.{Adds, AddsSlots, Opens, slot_tokens, slots_tokens}
+use Rattle.json_objects.specs.Written.{present, object_of, items_of}
+use Rattle.json_objects.specs.Adding.{Adds, AddsSlots, Opens, slot_tokens, slots_tokens}
 
 abbrev pub Slots : Type 0
 Slots = List (List ℕ × Option Json)
@@ -109,14 +107,17 @@ module _ {X : Type 0} (value : X → Json) where
   each_end (x ∷ xs) = ap (λ ts. json_tokens (value x) ++ ts) (each_end xs) ∙ sym (append_assoc (json_tokens (value x)) (each_tokens value xs) (end_array ∷ []))
 
   -- the items so far, and one more
-  pub item_added : (a b c : Written) (xs : List X) (i : ℕ) (x : X) → i < length xs → take (i + 1) xs ≡ take i xs ++ x ∷ [] → Adds a b (begin_array ∷ each_tokens value (take i xs)) → Adds b c (json_tokens (value x)) → Adds a c (begin_array ∷ each_tokens value (take (i + 1) xs))
-  item_added a b c xs i x lt front p q =
+  pub item_next : (a b c : Written) (xs : List X) (i : ℕ) (x : X) → take (i + 1) xs ≡ take i xs ++ x ∷ [] → Adds a b (begin_array ∷ each_tokens value (take i xs)) → Adds b c (json_tokens (value x)) → Adds a c (begin_array ∷ each_tokens value (take (i + 1) xs))
+  item_next a b c xs i x front p q =
       record {
         before = q.before ∙ p.before;
         added =
             q.added ∙ ap (λ ts. ts ++ json_tokens (value x)) p.added ∙ append_assoc a.tokens (begin_array ∷ each_tokens value (take i xs)) (json_tokens (value x))
             ∙ ap (λ ts. a.tokens ++ begin_array ∷ ts) (sym (ap (each_tokens value) front ∙ each_push (take i xs) x));
       }
+
+  pub item_added : (a b c : Written) (xs : List X) (i : ℕ) (x : X) → i < length xs → x ≡ get_or xs i x → Adds a b (begin_array ∷ each_tokens value (take i xs)) → Adds b c (json_tokens (value x)) → Adds a c (begin_array ∷ each_tokens value (take (i + 1) xs))
+  item_added a b c xs i x lt here p q = item_next a b c xs i x (take_more xs i x lt ∙ ap (λ y. take i xs ++ y ∷ []) (sym here)) p q
 
   -- all items, and the bracket
   pub items_added : {E : Type 0} (r : Result (Unit {0}) E) (a b c : Written) (xs : List X) (i : ℕ) → length xs ≤ i → Adds a b (begin_array ∷ each_tokens value (take i xs)) → Writes r b c end_array → OnOk r (Adds a c (json_tokens (array (items_of value xs))))

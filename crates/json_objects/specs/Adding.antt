@@ -1,4 +1,4 @@
--- What the private calls that write a line add to its tokens.
+-- What a call that writes a part of a line adds to its tokens (own).
 use Rattle.std.specs.Prelude.{◌≡◌, ℕ, List, [], ◌∷◌, ◌++◌, Option, Some, None}
 use Rattle.std.specs.Str.{IsUtf8}
 use Rattle.json.specs.Json.{Json}
