@@ -5,9 +5,10 @@ ghost use Rattle.rad_console.specs.Lines.{counts_of};
 ghost use Rattle.rad_proxy.specs.Configurations.{IsCounted};
 
 use crate::faults::Fault;
-use crate::loading::{MOST_FILE_OCTETS, load, load_text};
+use crate::loading::{load, load_text};
 use crate::machine::Host;
 use rad_console::CountLine;
+use rad_files::MOST_FILE_OCTETS;
 use rad_log::Log;
 use rad_realms::Config;
 use std::alloc::Global;

@@ -8,15 +8,12 @@ use crate::file_name::FileName;
 use crate::machine::Host;
 use crate::reasons::{tell_doubts, tell_faults, tell_file, tell_homes, tell_text};
 use rad_addresses::read_local_addresses;
-use rad_files::read_at_most;
+use rad_files::{MOST_FILE_OCTETS, read_at_most};
 use rad_log::Log;
 use rad_realms::Config;
 use std::alloc::Global;
 use std::fs;
 use std::io::{Error, ErrorKind, Read};
-
-/// The most octets of a configuration's file.
-pub const MOST_FILE_OCTETS: u64 = 1_048_576;
 
 /// Reads the configuration in a file. Logs why the file can't be read, and what an operator should know of the
 /// configuration.
