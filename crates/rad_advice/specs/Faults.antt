@@ -14,7 +14,7 @@ use Rattle.rad_config.specs.declared.reading.faults.ConfigFault.{ConfigFault}
 use Rattle.rad_config.specs.declared.reading.faults.ConfigFault.TheVariants.{Toml, OutOfMemory, Missing, WrongType, OutOfRange, DoubleName, UnknownHome, BadAddress, TooMany}
 use Rattle.rad_realms.specs.Spot.{part_name, key_name, fault_text}
 use Rattle.rad_realms.specs.Faults.{faults_in}
-use Rattle.rad_advice.specs.declared.place.Place.{Place}
+use Rattle.rad_advice.specs.declared.place.TextPlace.{TextPlace}
 use Rattle.rad_advice.specs.declared.faults.Shown.{Shown}
 use Rattle.rad_advice.specs.declared.faults.Shown.TheVariants as shown
 use Rattle.rad_advice.specs.declared.faults.FaultReport.{FaultReport}
@@ -215,7 +215,7 @@ pub record IsPlacedIn (text : List ℕ) (r : FaultReport) : Type 0 where
 
 -- ---- the printed line
 
-abbrev pub first_text : Option Place → List ℕ
+abbrev pub first_text : Option TextPlace → List ℕ
 first_text None = []
 first_text (Some place) = codes ": the first one is at line " ++ decimal place.line
 

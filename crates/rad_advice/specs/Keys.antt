@@ -13,7 +13,7 @@ use Rattle.rad_config.specs.declared.reading.faults.Key.TheVariants.{Listen, Def
 use Rattle.rad_realms.specs.Spot.{key_name}
 use Rattle.rad_advice.specs.declared.unread.Unread.{Unread}
 use Rattle.rad_advice.specs.declared.unread.UnreadKey.{UnreadKey}
-use Rattle.rad_advice.specs.declared.place.Place.{Place}
+use Rattle.rad_advice.specs.declared.place.TextPlace.{TextPlace}
 use Rattle.rad_advice.specs.Place.{place_at}
 use Rattle.rad_advice.specs.Telling.{is_near_one_of}
 
@@ -92,7 +92,7 @@ abbrev pub BeginsAt : List ℕ → ℕ → List ℕ → Type 0
 BeginsAt name offset text = option_map (λ k. first_part k.0) (key (drop offset text)) ≡ Some name
 
 -- The place is that of an offset at which such a key begins.
-abbrev pub BeginsAtPlace : List ℕ → List ℕ → Place → Type 0
+abbrev pub BeginsAtPlace : List ℕ → List ℕ → TextPlace → Type 0
 BeginsAtPlace text name place = (offset : ℕ) × (offset ≤ length text) × BeginsAt name offset text × (place ≡ place_at offset text)
 
 -- If a key's place is known, a key whose first part has its name begins there. Its name is told if it is near that of a key

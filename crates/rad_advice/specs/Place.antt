@@ -3,7 +3,7 @@
 use Rattle.std.specs.Prelude.{ℕ, ◌+◌, Bool, not, ◌&&◌, ◌==◌, nat_le, nat_lt, if◌then◌else◌, List, [], ◌∷◌, take, Option, Some, None, unwrap_or}
 use Rattle.std.specs.List.{count_by}
 use Rattle.rad_realms.specs.Realm.{or_else}
-use Rattle.rad_advice.specs.declared.place.Place.{Place}
+use Rattle.rad_advice.specs.declared.place.TextPlace.{TextPlace}
 
 abbrev pub is_line_feed : ℕ → Bool
 is_line_feed octet = octet == 10
@@ -28,5 +28,5 @@ abbrev pub column_after : List ℕ → ℕ
 column_after before = count_by begins_character (last_line before) + 1
 
 -- The place of the octet at an offset.
-unfoldable pub place_at : ℕ → List ℕ → Place
+unfoldable pub place_at : ℕ → List ℕ → TextPlace
 place_at offset text = record { line = line_after (take offset text); column = column_after (take offset text) }

@@ -5,14 +5,14 @@ use Rattle.rad_log.specs.Escaped.{escaped}
 use Rattle.rad_config.specs.declared.reading.faults.Part.{Part}
 use Rattle.rad_realms.specs.Spot.{part_name, index_text}
 use Rattle.rad_realms.specs.Printed.{endpoint_text}
-use Rattle.rad_advice.specs.declared.place.Place.{Place}
+use Rattle.rad_advice.specs.declared.place.TextPlace.{TextPlace}
 use Rattle.rad_advice.specs.declared.syntax.SyntaxError.{SyntaxError}
 use Rattle.rad_advice.specs.declared.unread.UnreadKey.{UnreadKey}
 use Rattle.rad_advice.specs.declared.homes.HomeAdvice.{HomeAdvice}
 use Rattle.rad_advice.specs.declared.homes.AddressFault.{AddressFault}
 use Rattle.rad_advice.specs.declared.homes.AddressFault.TheVariants.{Listen, Unspecified, Broadcast, Multicast, Reserved}
 
-abbrev pub place_text : Place → List ℕ
+abbrev pub place_text : TextPlace → List ℕ
 place_text place = codes "line " ++ decimal place.line ++ codes ", column " ++ decimal place.column
 
 abbrev pub syntax_text : SyntaxError → List ℕ
@@ -25,7 +25,7 @@ name_text name = if nat_le (length name) 64 then escaped None name else escaped 
 abbrev pub table_text : Part → ℕ → List ℕ
 table_text part index = part_name part ++ index_text part index
 
-abbrev pub at_text : Option Place → List ℕ
+abbrev pub at_text : Option TextPlace → List ℕ
 at_text None = []
 at_text (Some place) = codes " at " ++ place_text place
 

@@ -3,7 +3,7 @@ use Rattle.std.specs.Prelude.{◌≡◌, ℕ, ◌≤◌, List, length, IsUtf8, I
 use Rattle.toml.specs.Parse.{parse_document}
 use Rattle.rad_advice.specs.declared.config_text.TextFault.{TextFault}
 use Rattle.rad_advice.specs.declared.config_text.TextFault.TheVariants.{NoToml, OutOfMemory}
-use Rattle.rad_advice.specs.declared.place.Place.{Place}
+use Rattle.rad_advice.specs.declared.place.TextPlace.{TextPlace}
 use Rattle.rad_advice.specs.declared.syntax.SyntaxError.{SyntaxError}
 use Rattle.rad_advice.specs.Place.{place_at}
 
@@ -11,7 +11,7 @@ abbrev pub IsToml : List ℕ → Type 0
 IsToml text = IsUtf8 text × IsSome (parse_document text)
 
 -- The place of an octet of the text, or of its end.
-abbrev pub IsPlaceIn : List ℕ → Place → Type 0
+abbrev pub IsPlaceIn : List ℕ → TextPlace → Type 0
 IsPlaceIn text place = (offset : ℕ) × (offset ≤ length text) × (place ≡ place_at offset text)
 
 -- What holds of the error of octets that are not TOML.

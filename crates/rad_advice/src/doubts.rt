@@ -9,7 +9,7 @@ ghost use Rattle.rad_advice.specs.Doubts.{about, example_secrets, is_control as 
 use crate::config_text::ConfigText;
 use crate::finding::find_key;
 use crate::listed::{Listed, list_first};
-use crate::place::{AtText, Place};
+use crate::place::{AtText, TextPlace};
 use crate::unread::TableText;
 use rad_realms::{Client, Config, Endpoint, Home, Key, Part, Realm, Spot};
 use std::alloc::{AllocError, Global};
@@ -98,7 +98,7 @@ pub struct Warning {
     /// What it is about.
     pub doubtful: Doubtful,
     /// The place of the key in the text, if it was found.
-    pub place: Option<Place>,
+    pub place: Option<TextPlace>,
 }
 
 impl fmt::Display for Warning {

@@ -15,7 +15,7 @@ use crate::finding::{find_key, find_table};
 use crate::hints::hint_of;
 use crate::listed::{Listed, list_first};
 use crate::name_text::NameText;
-use crate::place::{AtText, Place};
+use crate::place::{AtText, TextPlace};
 use crate::unread::member;
 use rad_realms::{ConfigFault, Key, Part, Spot, list_faults};
 use std::alloc::{AllocError, Global};
@@ -32,12 +32,12 @@ const MOST_LISTED: usize = 50;
 pub struct FaultReport<'t> {
     fault: ConfigFault,
     /// The place of its key; or of the header of its table, if the key is absent.
-    place: Option<Place>,
+    place: Option<TextPlace>,
     value: Shown<'t>,
     /// What the value seems to be, or should be.
     hint: &'static str,
     /// The place of the first key with the same value, if it is a name that two tables have.
-    first: Option<Place>,
+    first: Option<TextPlace>,
 }
 
 /// A value that is told.
@@ -85,7 +85,7 @@ impl fmt::Display for Shown<'_> {
 
 /// The line of the first key with the same value, if it is known.
 #[derive(Clone, Copy)]
-struct FirstText(Option<Place>);
+struct FirstText(Option<TextPlace>);
 
 impl fmt::Display for FirstText {
     ghost use Rattle.std.specs.Prelude.{Some};
@@ -238,7 +238,7 @@ fn may_tell(text: &[u8]) -> bool
 }
 
 /// Returns the place of a fault's key; or of the header of its table, if the key is absent there.
-fn find_place(alloc: Global, text: &str, fault: ConfigFault) -> Result<Option<Place>, AllocError>
+fn find_place(alloc: Global, text: &str, fault: ConfigFault) -> Result<Option<TextPlace>, AllocError>
     ensures { IfOk result (λ found. IfSome found (BeginsAtPlace text.now (name_sought fault))) }
 {
     if let ConfigFault::Missing(spot) = fault {
@@ -251,7 +251,7 @@ fn find_place(alloc: Global, text: &str, fault: ConfigFault) -> Result<Option<Pl
 }
 
 /// Returns the place of a key at the top, or that of the header of the table that lacks it.
-fn place_missing(alloc: Global, text: &str, spot: Spot) -> Result<Option<Place>, AllocError>
+fn place_missing(alloc: Global, text: &str, spot: Spot) -> Result<Option<TextPlace>, AllocError>
     ensures { IfOk result (λ found. IfSome found (BeginsAtPlace text.now (if is_top spot.part then key_name spot.key else part_name spot.part))) }
 {
     match spot.part {
@@ -260,7 +260,7 @@ fn place_missing(alloc: Global, text: &str, spot: Spot) -> Result<Option<Place>,
     }
 }
 
-fn place_key(alloc: Global, text: &str, spot: Spot) -> Result<Option<Place>, AllocError>
+fn place_key(alloc: Global, text: &str, spot: Spot) -> Result<Option<TextPlace>, AllocError>
     ensures { IfOk result (λ found. IfSome found (BeginsAtPlace text.now (key_name spot.key))) }
 {
     find_key(alloc, text, spot.part, spot.index, spot.key.name())
@@ -272,7 +272,7 @@ fn find_first(
     text: &str,
     document: &Table,
     fault: ConfigFault,
-) -> Result<Option<Place>, AllocError>
+) -> Result<Option<TextPlace>, AllocError>
     ensures { IfOk result (λ found. IfSome found (BeginsAtPlace text.now (key_sought (spot_in fault)))) }
 {
     let ConfigFault::DoubleName(spot) = fault else {

@@ -8,7 +8,7 @@ ghost use Rattle.std.specs.List.{slice_get};
 ghost use Rattle.rad_realms.specs.Spot.{part_name};
 ghost use Rattle.rad_advice.specs.Keys.{BeginsAt, BeginsAtPlace};
 
-use crate::place::{Place, place_of};
+use crate::place::{TextPlace, place_of};
 use crate::tokens::{Token, next_token, read_key, skip_expression, skip_part};
 use rad_realms::Part;
 use std::alloc::{AllocError, Global};
@@ -55,7 +55,7 @@ pub(crate) fn find_key(
     part: Part,
     index: usize,
     name: &str,
-) -> Result<Option<Place>, AllocError>
+) -> Result<Option<TextPlace>, AllocError>
     ensures { IfOk result (λ found. IfSome found (BeginsAtPlace text.now name.now)) }
 {
     let wanted = Wanted {
@@ -74,7 +74,7 @@ pub(crate) fn find_table(
     text: &str,
     part: Part,
     index: usize,
-) -> Result<Option<Place>, AllocError>
+) -> Result<Option<TextPlace>, AllocError>
     ensures { IfOk result (λ found. IfSome found (BeginsAtPlace text.now (part_name part))) }
 {
     let wanted = Wanted {
@@ -86,7 +86,7 @@ pub(crate) fn find_table(
     find(alloc, text, wanted)
 }
 
-fn find(alloc: Global, text: &str, wanted: Wanted<'_>) -> Result<Option<Place>, AllocError>
+fn find(alloc: Global, text: &str, wanted: Wanted<'_>) -> Result<Option<TextPlace>, AllocError>
     ensures { IfOk result (λ found. IfSome found (BeginsAtPlace text.now wanted.entry.name.now)) }
 {
     let mut passed = Passed {
@@ -115,7 +115,7 @@ fn find_place(
     wanted: Wanted<'_>,
     passed: &mut Passed,
     start: &str,
-) -> Result<Option<Place>, AllocError>
+) -> Result<Option<TextPlace>, AllocError>
     ensures { IfOk result (λ found. IfSome found (BeginsAtPlace text.now wanted.entry.name.now)) }
 {
     let Some(found) = find_in_expression(alloc, wanted, passed, start)? else {

@@ -29,6 +29,6 @@ pub use doubts::{Doubt, Doubtful, Warning, list_warnings};
 pub use faults::{FaultReport, fault_reports};
 pub use homes::{AddressFault, HomeAdvice, advise_home, advise_homes};
 pub use listed::Listed;
-pub use place::{Place, place_of};
+pub use place::{TextPlace, place_of};
 pub use syntax::SyntaxError;
 pub use unread::{UnreadKey, unread_keys};

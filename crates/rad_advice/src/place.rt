@@ -8,14 +8,14 @@ use std::fmt;
 
 /// A place in a text. It is printed as `line 3, column 10`.
 #[derive(Clone, Copy, PartialEq, Eq)]
-pub struct Place {
+pub struct TextPlace {
     /// The line, counted from 1.
     pub line: usize,
     /// The column in that line, counted from 1 in characters.
     pub column: usize,
 }
 
-impl fmt::Display for Place {
+impl fmt::Display for TextPlace {
     ghost use Rattle.std.specs.Prelude.{Some};
     ghost use Rattle.rad_advice.specs.Printed.{place_text};
 
@@ -30,7 +30,7 @@ impl fmt::Display for Place {
 
 /// ` at ` and a place, if it is known.
 #[derive(Clone, Copy)]
-pub(crate) struct AtText(pub Option<Place>);
+pub(crate) struct AtText(pub Option<TextPlace>);
 
 impl fmt::Display for AtText {
     ghost use Rattle.std.specs.Prelude.{Some};
@@ -49,14 +49,14 @@ impl fmt::Display for AtText {
 /// Returns the place of the octet at an offset of a text. At the text's end it is the place of an octet that would
 /// follow.
 #[tactic(auto, unfolding(crate::specs::Place::place_at))]
-pub fn place_of(text: &[u8], offset: usize) -> Place
+pub fn place_of(text: &[u8], offset: usize) -> TextPlace
     requires { offset ≤ length text.now }
     ensures { result ≡ place_at offset text.now }
 {
     let before = &text[..offset];
     let line = line_of(before);
     let column = column_of(before);
-    Place { line, column }
+    TextPlace { line, column }
 }
 
 fn line_of(before: &[u8]) -> usize

@@ -1,6 +1,6 @@
 //! The place where a text stops being TOML, and the error there.
 
-use crate::place::Place;
+use crate::place::TextPlace;
 use std::fmt;
 
 /// Why a text is not TOML, and where. It is printed as `line 3, column 10: invalid string`.
@@ -8,7 +8,7 @@ use std::fmt;
 pub struct SyntaxError {
     /// The place where the text stops being TOML. If the text is not UTF-8, it is the place of the first octet that is
     /// not.
-    pub(crate) place: Place,
+    pub(crate) place: TextPlace,
     /// The error, or what was expected there: one line without quotation marks. The words are those of the TOML reader,
     /// or `no UTF-8`.
     pub(crate) message: String,

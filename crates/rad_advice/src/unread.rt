@@ -12,7 +12,7 @@ use crate::keys::is_read;
 use crate::listed::{Listed, list_first};
 use crate::name_text::NameText;
 use crate::near::is_near_key;
-use crate::place::{AtText, Place};
+use crate::place::{AtText, TextPlace};
 use rad_realms::Part;
 use std::alloc::{AllocError, Global};
 use std::fmt;
@@ -39,7 +39,7 @@ pub struct UnreadKey<'t> {
     /// Whether at most two edits make its name of that of a key that is read in such a table.
     is_near: bool,
     /// The place where it begins for the first time in that table, if it was found.
-    place: Option<Place>,
+    place: Option<TextPlace>,
 }
 
 impl fmt::Display for UnreadKey<'_> {

@@ -8,15 +8,15 @@ use Rattle.rad_desk.specs.declared.gate.WorkerReport.{WorkerReport}
 use Rattle.rad_desk.specs.declared.gate.WorkerReport.TheVariants as report
 use Rattle.rad_metrics.specs.declared.counted.Counted.{Counted}
 use Rattle.rad_metrics.specs.declared.counted.Counted.TheVariants.{Dropped, Refused, Unheard, SendFaults, ReceiveFaults, WentDown, Sent, Probed, Cut, Marked, WentUp, ClientReceived, ClientAccepted, ClientRepeats, ClientResponses, ClientRefused, ClientDropped}
-use Rattle.rad_metrics.specs.declared.event.Event.{Event}
+use Rattle.rad_metrics.specs.declared.event.CountedEvent.{CountedEvent}
 use Rattle.rad_metrics.specs.declared.reason.Reason.{Reason}
 use Rattle.rad_metrics.specs.declared.reason.Reason.TheVariants as reason
 
-abbrev pub event : Counted → Reason → Event
+abbrev pub event : Counted → Reason → CountedEvent
 event metric why = record { metric = metric; reason = why }
 
 -- An event of a metric whose events do not differ.
-abbrev pub plain : Counted → Event
+abbrev pub plain : Counted → CountedEvent
 plain metric = event metric reason.None
 
 -- The metric of a datagram to a home server by its Code: an Accounting-Request or a Status-Server.
@@ -24,12 +24,12 @@ abbrev pub sent_metric : Option ℕ → Option Counted
 sent_metric None = None
 sent_metric (Some code) = if code == 4 then Some Sent else (if code == 12 then Some Probed else None)
 
-abbrev pub sent_event : Option Counted → Option Event
+abbrev pub sent_event : Option Counted → Option CountedEvent
 sent_event None = None
 sent_event (Some metric) = Some (plain metric)
 
 -- The event as which a report is counted for a worker.
-abbrev pub event_of : WorkerReport → Option Event
+abbrev pub event_of : WorkerReport → Option CountedEvent
 event_of (report.Sends to octets origin) = sent_event (sent_metric (slice_get octets.now 0))
 event_of (report.SendFault to) = Some (plain SendFaults)
 event_of report.ReceiveFault = Some (plain ReceiveFaults)
@@ -45,7 +45,7 @@ event_of r = None
 
 -- The event as which a report of the front is counted for the client that it is about. A datagram that came from no
 -- client is counted for none.
-abbrev pub client_event_of : WorkerReport → Option Event
+abbrev pub client_event_of : WorkerReport → Option CountedEvent
 client_event_of (report.Received from octets) = Some (plain ClientReceived)
 client_event_of (report.Accepted lane number from octets) = Some (plain ClientAccepted)
 client_event_of (report.Repeated repeat from octets) = Some (event ClientRepeats (reason.Repeat repeat))

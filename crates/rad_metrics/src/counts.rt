@@ -1,7 +1,7 @@
 //! Words for events: one for each event of each worker and of each client. They are counted or written without a lock, and
 //! without memory.
 
-use crate::event::Event;
+use crate::event::CountedEvent;
 use crate::metric::{Metric, metrics};
 use std::alloc::{AllocError, Global};
 use std::sync::atomic::{AtomicU64, Ordering};
@@ -46,7 +46,7 @@ impl Counts {
     }
 
     /// Returns the word of an event in a row.
-    pub fn word(&self, row: usize, event: Event) -> Option<&AtomicU64> {
+    pub fn word(&self, row: usize, event: CountedEvent) -> Option<&AtomicU64> {
         let rows = if event.metric.is_of_clients() {
             &self.clients
         } else {
@@ -58,19 +58,19 @@ impl Counts {
     }
 
     /// Adds `times` to the word of an event in a row.
-    pub fn add(&self, row: usize, event: Event, times: u64) {
+    pub fn add(&self, row: usize, event: CountedEvent, times: u64) {
         if let Some(word) = self.word(row, event) {
             word.fetch_add(times, Ordering::SeqCst);
         }
     }
 
     /// Returns the word of an event in a row, or 0 if there is no such row.
-    pub fn get(&self, row: usize, event: Event) -> u64 {
+    pub fn get(&self, row: usize, event: CountedEvent) -> u64 {
         word_or_0(self.word(row, event))
     }
 
     /// Writes the word of an event in a row, and returns what it was; 0 if there is no such row.
-    pub fn swap(&self, row: usize, event: Event, value: u64) -> u64 {
+    pub fn swap(&self, row: usize, event: CountedEvent, value: u64) -> u64 {
         match self.word(row, event) {
             Some(word) => word.swap(value, Ordering::SeqCst),
             None => 0,

@@ -16,7 +16,7 @@ pub struct Classified<'a> {
     /// The row of the worker or lane that it is about.
     pub row: usize,
     /// The event as which it is counted for that worker or lane.
-    pub event: Option<Event>,
+    pub event: Option<CountedEvent>,
     /// The address and port of the other end of what is reported.
     pub peer: Option<Endpoint>,
 }
@@ -32,7 +32,7 @@ impl<'a> Classified<'a> {
             worker,
             report,
             row: row_of_report(worker, report),
-            event: Event::of(report),
+            event: CountedEvent::of(report),
             peer: peer_of_report(report),
         }
     }
@@ -40,21 +40,21 @@ impl<'a> Classified<'a> {
 
 /// An event that is counted: the metric that counts it, and the reason by which it differs from others there.
 #[derive(Clone, Copy)]
-pub struct Event {
+pub struct CountedEvent {
     pub metric: Counted,
     pub reason: Reason,
 }
 
-impl Event {
+impl CountedEvent {
     /// Makes an event of a metric whose events do not differ.
-    pub fn plain(metric: Counted) -> Event
+    pub fn plain(metric: Counted) -> CountedEvent
         ensures { result ≡ plain metric }
     {
         let reason = Reason::None;
-        Event { metric, reason }
+        CountedEvent { metric, reason }
     }
 
-    fn of(report: &Report<'_>) -> Option<Event>
+    fn of(report: &Report<'_>) -> Option<CountedEvent>
         ensures { result ≡ event_of report.now }
     {
         let (metric, reason) = match *report {
@@ -71,12 +71,12 @@ impl Event {
             Report::Marked { .. } => (Counted::Marked, Reason::None),
             _ => return None,
         };
-        Some(Event { metric, reason })
+        Some(CountedEvent { metric, reason })
     }
 
     /// Returns the event as which a report of the front is counted for the client that it is about. A datagram that is
     /// dropped since it came from no client is counted for none.
-    pub(crate) fn of_client(report: &Report<'_>) -> Option<Event>
+    pub(crate) fn of_client(report: &Report<'_>) -> Option<CountedEvent>
         ensures { result ≡ client_event_of report.now }
     {
         let (metric, reason) = match *report {
@@ -92,7 +92,7 @@ impl Event {
             Report::Dropped { reason, .. } => (Counted::ClientDropped, Reason::Dropped(reason)),
             _ => return None,
         };
-        Some(Event { metric, reason })
+        Some(CountedEvent { metric, reason })
     }
 }
 

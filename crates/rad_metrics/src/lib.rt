@@ -5,7 +5,7 @@
 //! lock, by the lane's worker, when it is asked for them. All labels come from the configuration, from the program and
 //! from its sockets, whoever sends. What is counted of the ledger is in `ledger_state`.
 //!
-//! What is counted is an [`Event`]: the metric that counts it, [`Counted`], and a [`Reason`], whose place and name are
+//! What is counted is an [`CountedEvent`]: the metric that counts it, [`Counted`], and a [`Reason`], whose place and name are
 //! those of the enum of reasons that it has. A new reason is added there alone.
 //!
 //! [`metrics`] returns the list of all metrics: of each, its kind, its name and its help text. Its contract says that no
@@ -43,7 +43,7 @@ mod writing;
 pub use counted::Counted;
 pub use counts::Counts;
 pub use draft::Draft;
-pub use event::{Classified, Event, worker_row};
+pub use event::{Classified, CountedEvent, worker_row};
 pub use family::{Family, Kind};
 pub use home_metric::{HomeMetric, Reading};
 pub use ledger_metrics::LedgerMetric;

@@ -4,7 +4,7 @@ ghost use Rattle.rad_metrics.specs.Times.{IsStartBy};
 
 use crate::counted::Counted;
 use crate::counts::{APART, Counts, atomics, word_or_0};
-use crate::event::{Classified, Event, worker_row};
+use crate::event::{Classified, CountedEvent, worker_row};
 use crate::home_cells::{HomeCell, home_cells, is_of_home};
 use crate::own_process::ProcessReading;
 use crate::program_metrics::ProgramReading;
@@ -91,7 +91,7 @@ impl<'a, R: Clock> Numbers<'a, R> {
             return;
         }
         if let Some(home) = row.checked_sub(1).and_then(|lane| self.homes.get(lane)) {
-            let sent = self.counts.get(row, Event::plain(Counted::Sent));
+            let sent = self.counts.get(row, CountedEvent::plain(Counted::Sent));
             home.report(report, self.turn(0), self.turn(row), sent);
         }
     }
@@ -177,7 +177,7 @@ impl<R> Numbers<'_, R> {
 
     /// Counts the event of a report of the front for the client that it is about.
     fn count_of_client(&self, its: &Classified<'_>) {
-        let (Some(event), Some(peer)) = (Event::of_client(its.report), its.peer) else {
+        let (Some(event), Some(peer)) = (CountedEvent::of_client(its.report), its.peer) else {
             return;
         };
         if let Some(row) = self.clients.get(&peer.address) {

@@ -2,7 +2,7 @@
 
 use crate::counted::Counted;
 use crate::counts::{Counts, word_or_0};
-use crate::event::Event;
+use crate::event::CountedEvent;
 use crate::family::Family;
 use crate::histogram::{BUCKETS, Histogram};
 use crate::home_cells::HomeCell;
@@ -148,7 +148,7 @@ fn write_row(
     for place in 0..metric.width() {
         if let Some(reason) = metric.reason_at(place) {
             let labels = Labels(owner, reason.label());
-            let count = counts.get(row, Event { metric, reason });
+            let count = counts.get(row, CountedEvent { metric, reason });
             to.add_part("", labels, Value::Count(count))?;
         }
     }

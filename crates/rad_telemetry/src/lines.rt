@@ -5,14 +5,14 @@ ghost use Rattle.std.specs.Prelude.{◌≡◌};
 ghost use Rattle.rad_telemetry.specs.Lines.{event_word, state_text};
 
 use rad_desk::{LeftState, UpReason};
-use rad_metrics::{Counted, Event, Reason};
+use rad_metrics::{Counted, CountedEvent, Reason};
 use rad_realms::{AddressText, Endpoint};
 use std::fmt;
 
 /// What was counted of an event since the last sum.
 #[derive(Clone, Copy)]
 pub struct Sum {
-    pub event: Event,
+    pub event: CountedEvent,
     pub count: u64,
     /// The other end of the last one, if it had one.
     pub last: Endpoint,

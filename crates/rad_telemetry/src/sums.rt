@@ -7,7 +7,7 @@ use crate::lines::{Sum, SumLine};
 use crate::workers::worker_name;
 use rad_desk::WorkerReport;
 use rad_log::{Level, Log, tell};
-use rad_metrics::{Classified, Counted, Counts, Event, Reason};
+use rad_metrics::{Classified, Counted, Counts, CountedEvent, Reason};
 use rad_realms::{Config, Dropped, Endpoint};
 use std::alloc::{AllocError, Global};
 use std::sync::atomic::Ordering;
@@ -94,7 +94,7 @@ impl Sums {
     ) {
         for place in 0..metric.width() {
             if let Some(reason) = metric.reason_at(place) {
-                if let Some(sum) = self.take(row, Event { metric, reason }, counts) {
+                if let Some(sum) = self.take(row, CountedEvent { metric, reason }, counts) {
                     self.log_sum(log, name, sum);
                 }
             }
@@ -102,7 +102,7 @@ impl Sums {
     }
 
     /// Returns what was counted of an event since the last call, if anything.
-    fn take(&self, row: usize, event: Event, counts: &Counts) -> Option<Sum> {
+    fn take(&self, row: usize, event: CountedEvent, counts: &Counts) -> Option<Sum> {
         let now = counts.get(row, event);
         let count = since(self.given.swap(row, event, now), now);
         let most_marks = self.marks.swap(row, event, 0);

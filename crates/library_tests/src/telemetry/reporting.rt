@@ -7,7 +7,7 @@ use crate::telemetry::logs::{MemoryLog, has_logged, log_up_to};
 use rad_desk::{DeskFault, Gate, Standing, Worker, WorkerReport};
 use rad_lane::Counts;
 use rad_log::LevelFilter;
-use rad_metrics::{Counted, Event, Reason};
+use rad_metrics::{Counted, CountedEvent, Reason};
 use rad_realms::{Config, Endpoint};
 use rad_tables::Moment;
 use rad_telemetry::{Telemetry, Tracer};
@@ -38,7 +38,7 @@ const EMPTY: Standing = Standing {
 };
 
 /// What is counted of a home server's datagram for which the ring is full.
-const RING_FULL: Event = Event {
+const RING_FULL: CountedEvent = CountedEvent {
     metric: Counted::Unheard,
     reason: Reason::Unheard(DeskFault::RingFull),
 };
@@ -78,7 +78,7 @@ fn report<R: Clock>(telemetry: &Telemetry<'_, MemoryLog, R>) -> bool {
     counts.get(0, RING_FULL) == 0
         && counts.get(1, RING_FULL) == 0
         && counts.get(2, RING_FULL) == 1
-        && counts.get(3, Event::plain(Counted::WentDown)) == 0
+        && counts.get(3, CountedEvent::plain(Counted::WentDown)) == 0
 }
 
 fn asks_until_told<R: Clock>(telemetry: &Telemetry<'_, MemoryLog, R>) -> bool {
