@@ -199,12 +199,12 @@ def the_life():
 # The column and the row of each crate.
 PLACES = {
     "rad_proxy": (2, 0), "library_tests": (3, 0),
-    "rad_telemetry": (2, 1), "rad_writer": (4, 1), "rad_audit": (5, 1),
+    "rad_telemetry": (2, 1), "ledger_writer": (4, 1), "rad_audit": (5, 1),
     "config_json": (0, 2), "rad_replay": (1, 2), "rad_server": (2, 2), "ledger_lines": (4, 2), "ledger_files": (5, 2),
-    "rad_console": (2, 3), "rad_metrics": (3, 3), "rad_ledger": (4, 3),
+    "rad_console": (2, 3), "rad_metrics": (3, 3), "ledger_rules": (4, 3),
     "rad_advice": (0, 4), "rad_addresses": (1, 4), "ledger_state": (2, 4), "rad_simulation": (5, 4),
     "rad_desk": (3, 5),
-    "json_objects": (5, 6), "rad_log": (1, 6), "rad_locks": (3, 6), "rad_progress": (4, 6),
+    "json_objects": (5, 6), "rad_log": (1, 6), "locked_lanes": (3, 6), "rad_progress": (4, 6),
     "rad_lane": (3, 7),
     "rad_files": (0, 8), "rad_realms": (2, 8), "block_queue": (3, 8), "rad_tables": (4, 8),
     "rad_config": (2, 9), "raw_lists": (3, 9),
@@ -213,7 +213,7 @@ PLACES = {
 }
 # Between which columns an arrow goes down that would meet a crate in its target's column.
 GUTTERS = {("library_tests", "ledger_lines"): 3.5, ("config_json", "json_objects"): 4.5, ("ledger_lines", "json_objects"): 4.5,
-           ("rad_audit", "rad_files"): 0.5, ("rad_audit", "rad_log"): 1.5, ("rad_ledger", "rad_desk"): 3.5,
+           ("rad_audit", "rad_files"): 0.5, ("rad_audit", "rad_log"): 1.5, ("ledger_rules", "rad_desk"): 3.5,
            ("rad_proxy", "rad_advice"): 0.5, ("config_json", "rad_files"): 0.5, ("config_json", "rad_log"): 0.5,
            ("config_json", "rad_realms"): 1.5, ("rad_replay", "rad_files"): 0.5, ("rad_metrics", "rad_log"): 0.5}
 PROGRAMS = "rad_proxy", "rad_audit", "config_json"

@@ -59,7 +59,7 @@ NUMBERS = {
     "rad_lane/src/accepting.rt": {"NUMBER_LIMIT": ("1 << 62", PROVED)},
     "rad_lane/src/entry.rt": {"PROBE_LENGTH": ("38", PROVED)},
     "rad_lane/src/session.rt": {"ACCT_SESSION_ID": ("44", PROVED)},
-    "rad_ledger/src/numbers.rt": {"MOST_RANGES": ("4096", PROVED)},
+    "ledger_rules/src/numbers.rt": {"MOST_RANGES": ("4096", PROVED)},
     "rad_log/src/levels.rt": {"ROOM": ("16", CHOICE)},
     "rad_log/src/line_queue.rt": {
         "ROOM": ("65_536", "faults/counters_and_log_files LOST"), "LONGEST": ("4096", CHOICE), "ENOUGH": ("4 * LONGEST", CHOICE),
@@ -92,8 +92,8 @@ NUMBERS = {
     "rad_replay/src/datagrams.rt": {"MOST_OCTETS": ("65_507", "rows requests/greatest-datagram"), "MOST_ATTRIBUTES": ("4076", PROVED)},
     "rad_replay/src/replaying.rt": {"MOST_INPUT": ("16_777_216", "rows script/greatest-input")},
     "rad_replay/src/sent.rt": {"IDENTIFIERS": ("256", FORM)},
-    "rad_locks/src/proxy.rt": {"TRIES": ("2000", f"{WAKES} a_worker_sleeps_until_its_lane_is_free")},
-    "rad_locks/src/spent.rt": {"GREATEST_VALUE_LENGTH": ("253", PROVED)},
+    "locked_lanes/src/proxy.rt": {"TRIES": ("2000", f"{WAKES} a_worker_sleeps_until_its_lane_is_free")},
+    "locked_lanes/src/spent.rt": {"GREATEST_VALUE_LENGTH": ("253", PROVED)},
     "rad_server/src/sockets/address_monitor.rt": {"LOOK": ("10", CHOICE)},
     "rad_server/src/sending/client_queue.rt": {"MOST": ("64", PROVED)},
     "rad_server/src/sockets/client_sockets.rt": {"MOST": ("256", "network/several_addresses test_many_addresses")},
@@ -121,18 +121,18 @@ NUMBERS = {
         "MOST_VALUE": ("253", FORM)},
     "rad_telemetry/src/tracer.rt": {"MOST_LINES": ("200", PROVED), "SECOND": ("1_000_000", PROVED)},
     "rad_telemetry/src/reporter.rt": {"PERIOD": ("1000", "timing/metrics_over_time TESTS"), "ASKED": ("40", CHOICE)},
-    "rad_writer/src/filling.rt": {"SIZE": ("262_144", CHOICE), "LINES": ("1024", CHOICE)},
-    "rad_writer/src/inlet.rt": {"LOOK": ("1", CHOICE)},
-    "rad_writer/src/lines.rt": {"GREATEST_SERIAL": ("9_223_372_036_854_775_807", PROVED)},
-    "rad_writer/src/file_before.rt": {
+    "ledger_writer/src/filling.rt": {"SIZE": ("262_144", CHOICE), "LINES": ("1024", CHOICE)},
+    "ledger_writer/src/inlet.rt": {"LOOK": ("1", CHOICE)},
+    "ledger_writer/src/lines.rt": {"GREATEST_SERIAL": ("9_223_372_036_854_775_807", PROVED)},
+    "ledger_writer/src/file_before.rt": {
         "READ_OCTETS": ("65_536", CHOICE), "RUN_DIGITS": ("16", "ledger/written_ledgers names_the_file_of_another_run_before"),
         "NUMBER_DIGITS": ("6", "ledger/written_ledgers names_the_file_of_another_run_before")},
-    "rad_writer/src/giving.rt": {
+    "ledger_writer/src/giving.rt": {
         "ROOM": ("67_108_864", "ledger/written_ledgers BOUND"),
         "PLACES": ("180_000", "ledger/written_ledgers a_hundred_eighty_thousand_small_entries_wait")},
-    "rad_writer/src/parcel.rt": {"LONGEST": ("4096", PROVED), "MOST": ("3 * LONGEST", PROVED)},
-    "rad_writer/src/runtime_disk.rt": {"MODE": ("0o640", "ledger/written_ledgers TESTS")},
-    "rad_writer/src/writer.rt": {
+    "ledger_writer/src/parcel.rt": {"LONGEST": ("4096", PROVED), "MOST": ("3 * LONGEST", PROVED)},
+    "ledger_writer/src/runtime_disk.rt": {"MODE": ("0o640", "ledger/written_ledgers TESTS")},
+    "ledger_writer/src/writer.rt": {
         "PAUSE": ("50", "ledger/written_ledgers WRITTEN"), "AGAIN": ("1000", CHOICE), "SYNC": ("900", "ledger/written_ledgers SYNCED"),
         "ANEW": ("60_000", "ledger/disk_faults FAILS"), "TOLD": ("3_600_000", "ledger/written_ledgers tells_the_sum_each_hour")},
 }

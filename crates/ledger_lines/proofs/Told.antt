@@ -18,9 +18,9 @@ use Rattle.ledger_lines.specs.Lines.{AreEach, HasNumber, MayHaveNumber, HasOctet
 use Rattle.rad_config.proofs.Addresses.{address_from_text}
 use Rattle.rad_realms.specs.Address.{IsAddress}
 use Rattle.rad_realms.specs.Printed.{address_text}
-use Rattle.rad_ledger.specs.declared.entry.Entry.{Entry}
-use Rattle.rad_ledger.specs.declared.left.Left.{Left}
-use Rattle.rad_ledger.specs.declared.line_request.LineRequest.{LineRequest}
+use Rattle.ledger_rules.specs.declared.entry.Entry.{Entry}
+use Rattle.ledger_rules.specs.declared.left.Left.{Left}
+use Rattle.ledger_rules.specs.declared.line_request.LineRequest.{LineRequest}
 use Rattle.ledger_lines.specs.declared.begin.Begin.{Begin}
 use Rattle.ledger_lines.specs.declared.begin.FileBefore.{FileBefore}
 use Rattle.ledger_lines.specs.declared.lane_start.LaneStart.{LaneStart}

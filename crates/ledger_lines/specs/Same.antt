@@ -2,9 +2,9 @@
 -- they lie.
 use Rattle.std.specs.Prelude.{◌≡◌, ℕ, List, Option, Some, None, option_copied, Result, MatchResult, ⊤}
 use Rattle.std.specs.List.{AllZip}
-use Rattle.rad_ledger.specs.declared.entry.Entry.{Entry}
-use Rattle.rad_ledger.specs.declared.left.Left.{Left}
-use Rattle.rad_ledger.specs.declared.line_request.LineRequest.{LineRequest}
+use Rattle.ledger_rules.specs.declared.entry.Entry.{Entry}
+use Rattle.ledger_rules.specs.declared.left.Left.{Left}
+use Rattle.ledger_rules.specs.declared.line_request.LineRequest.{LineRequest}
 use Rattle.ledger_lines.specs.Lines.{Denies, IsLine}
 use Rattle.ledger_lines.specs.declared.begin.Begin.{Begin}
 use Rattle.ledger_lines.specs.declared.end.End.{End}

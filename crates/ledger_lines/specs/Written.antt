@@ -7,9 +7,9 @@ use Rattle.json.specs.Json.{Json, string, array}
 use Rattle.hex.specs.Hex.{IsBytes, encode_lower}
 use Rattle.rad_realms.specs.Address.{IsAddress}
 use Rattle.rad_realms.specs.Printed.{address_text}
-use Rattle.rad_ledger.specs.declared.entry.Entry.{Entry}
-use Rattle.rad_ledger.specs.declared.left.Left.{Left}
-use Rattle.rad_ledger.specs.declared.line_request.LineRequest.{LineRequest}
+use Rattle.ledger_rules.specs.declared.entry.Entry.{Entry}
+use Rattle.ledger_rules.specs.declared.left.Left.{Left}
+use Rattle.ledger_rules.specs.declared.line_request.LineRequest.{LineRequest}
 use Rattle.json_objects.specs.Written.{items_of, number_value, object_of}
 pub use Rattle.json_objects.specs.Written.{HasLineBehind, HasValueBehind}
 use Rattle.ledger_lines.specs.Lines.{IsTime, state_text}

@@ -2,7 +2,7 @@
 
 ghost use Rattle.std.specs.Prelude.{MatchResult, OnOk};
 ghost use Rattle.json.specs.Value.{value_view};
-ghost use Rattle.rad_ledger.specs.declared.line_request.LineRequest.{LineRequest as TheRequest};
+ghost use Rattle.ledger_rules.specs.declared.line_request.LineRequest.{LineRequest as TheRequest};
 ghost use Rattle.ledger_lines.specs.Lines.{Denies, IsAbout};
 ghost use Rattle.json_objects.specs.Adding.{AddsSlots, Opens};
 ghost use Rattle.ledger_lines.specs.Written.{lane_slots, request_slots};
@@ -16,7 +16,7 @@ use crate::values::{
 use crate::writing::{address, digits, first_members, number_if_any, widened, words};
 use json::{Value, Writer};
 use json_objects::{number, text};
-use rad_ledger::LineRequest;
+use ledger_rules::LineRequest;
 use std::alloc::{AllocError, Global};
 
 pub(crate) fn about_at<'a>(

@@ -2,7 +2,7 @@
 
 ghost use Rattle.std.specs.Prelude.{MatchResult, OnOk, codes, IfOk};
 ghost use Rattle.json.specs.Value.{value_view};
-ghost use Rattle.rad_ledger.specs.declared.entry.Entry.{Entry as TheEntry};
+ghost use Rattle.ledger_rules.specs.declared.entry.Entry.{Entry as TheEntry};
 ghost use Rattle.ledger_lines.specs.Lines.{Denies, HasText, IsEntry};
 ghost use Rattle.json.specs.Tree.{json_tokens};
 ghost use Rattle.json_objects.specs.Adding.{Adds};
@@ -16,7 +16,7 @@ use crate::values::{has_only, octets_at, serial_at};
 use crate::writing::digits;
 use json::{Value, Writer};
 use json_objects::{close_line, number};
-use rad_ledger::Entry;
+use ledger_rules::Entry;
 use std::alloc::{AllocError, Global};
 
 /// The keys of an entry, in the order in which they are written.

@@ -2,8 +2,8 @@
 
 ghost use Rattle.std.specs.Prelude.{◌≤◌, ℕ, List, Result, length};
 ghost use Rattle.json.specs.Json.{Json as TheJson};
-ghost use Rattle.rad_ledger.specs.declared.entry.Entry.{Entry as TheEntry};
-ghost use Rattle.rad_ledger.specs.declared.left.Left.{Left as TheLeft};
+ghost use Rattle.ledger_rules.specs.declared.entry.Entry.{Entry as TheEntry};
+ghost use Rattle.ledger_rules.specs.declared.left.Left.{Left as TheLeft};
 ghost use Rattle.json_objects.specs.Written.{IsValue};
 ghost use Rattle.ledger_lines.specs.Lines.{IsBegin, IsEnd, IsEntry, IsLeft, IsLine, IsLineOf};
 ghost use Rattle.ledger_lines.specs.Same.{GivesBack, IsAnswer, IsSameLine};

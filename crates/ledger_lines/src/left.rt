@@ -2,7 +2,7 @@
 
 ghost use Rattle.std.specs.Prelude.{◌≡◌, MatchResult, OnOk, codes, IfOk};
 ghost use Rattle.json.specs.Value.{value_view};
-ghost use Rattle.rad_ledger.specs.declared.left.Left.{Left as TheLeft};
+ghost use Rattle.ledger_rules.specs.declared.left.Left.{Left as TheLeft};
 ghost use Rattle.ledger_lines.specs.Lines.{Denies, HasText, IsLeft, state_text as the_state_text, HasState};
 ghost use Rattle.json.specs.Tree.{json_tokens};
 ghost use Rattle.json_objects.specs.Adding.{Adds};
@@ -17,7 +17,7 @@ use crate::values::{count_at, has_only, octets_at, text_at, time_if_any_at};
 use crate::writing::{digits, number_if_any, text_if_any, widened};
 use json::{Value, Writer};
 use json_objects::{close_line, text};
-use rad_ledger::{Left, LeftState};
+use ledger_rules::{Left, LeftState};
 use std::alloc::{AllocError, Global};
 
 /// The keys of a request that was left, in the order in which they are written.

@@ -13,7 +13,7 @@ use crate::hidden::{Hidden, hidden_of};
 use crate::left::left_of;
 use crate::values::{read_value, text_at};
 use json::{Scratch, Value};
-use rad_ledger::{Entry, Left};
+use ledger_rules::{Entry, Left};
 use std::alloc::{AllocError, Global};
 
 /// The most octets of a line.

@@ -1,6 +1,6 @@
 -- What a line of a ledger says of its entry.
 use Rattle.std.specs.Prelude.{ℕ, ◌<◌, ◌^◌, List}
-use Rattle.rad_ledger.specs.declared.entry.Entry.{Entry}
+use Rattle.ledger_rules.specs.declared.entry.Entry.{Entry}
 use Rattle.ledger_lines.specs.declared.reading.Line.TheVariants.{Entry as enters}
 use Rattle.ledger_lines.specs.Lines.{IsLine}
 

@@ -1,6 +1,6 @@
 -- The files of a run (own), which are numbered from 0.
 use Rattle.std.specs.Prelude.{◌≡◌, ℕ, ◌+◌, ◌≤◌, Option, MatchOption}
-use Rattle.rad_ledger.specs.declared.tally.Gap.{Gap}
+use Rattle.ledger_rules.specs.declared.tally.Gap.{Gap}
 
 -- The files that are missing before one, where the next one has this number.
 abbrev pub LacksFiles : ℕ → ℕ → Option Gap → Type 0

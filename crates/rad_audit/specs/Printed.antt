@@ -1,8 +1,8 @@
 -- The lines that the auditor prints (own), without their line feeds.
 use Rattle.std.specs.Prelude.{ℕ, ◌^◌, ◌-◌, false, List, [], ◌++◌, codes, string_bytes}
 use Rattle.std.specs.Fmt.{decimal, digits, format_spec, padded_integral}
-use Rattle.rad_ledger.specs.Printed.{gap_text, reason_text, verdict_text}
-use Rattle.rad_ledger.specs.declared.reason.Reason.TheVariants.{WrongSum}
+use Rattle.ledger_rules.specs.Printed.{gap_text, reason_text, verdict_text}
+use Rattle.ledger_rules.specs.declared.reason.Reason.TheVariants.{WrongSum}
 use Rattle.rad_audit.specs.Shown.{word_text}
 use Rattle.rad_audit.specs.declared.printing.LinePlace.{LinePlace}
 use Rattle.rad_audit.specs.declared.printing.LaneCounts.{LaneCounts}

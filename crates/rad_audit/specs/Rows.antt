@@ -4,9 +4,9 @@ use Rattle.std.specs.Fmt.{decimal}
 use Rattle.rad_packet.specs.Packet.{identifier_of}
 use Rattle.rad_config.specs.Realm.{realm_of_packet}
 use Rattle.rad_lane.specs.Session.{session_id}
-use Rattle.rad_ledger.specs.declared.entry.Entry.{Entry}
-use Rattle.rad_ledger.specs.declared.left.Left.{Left as TheLeft}
-use Rattle.rad_ledger.specs.declared.line_request.LineRequest.{LineRequest}
+use Rattle.ledger_rules.specs.declared.entry.Entry.{Entry}
+use Rattle.ledger_rules.specs.declared.left.Left.{Left as TheLeft}
+use Rattle.ledger_rules.specs.declared.line_request.LineRequest.{LineRequest}
 use Rattle.ledger_lines.specs.Lines.{state_text}
 use Rattle.rad_audit.specs.Printed.{run_text}
 use Rattle.rad_audit.specs.Cells.{client_cell, value_cell, number_cell}

@@ -1,7 +1,7 @@
 -- How the program ends (own).
 use Rattle.std.specs.Prelude.{◌≡◌, ℕ, Bool, true, false, not, ◌&&◌, ◌||◌, ◌==◌, if◌then◌else◌}
-use Rattle.rad_ledger.specs.declared.tally.Verdict.{Verdict}
-use Rattle.rad_ledger.specs.declared.tally.Verdict.TheVariants.{Open, Missing, Unaccounted, Contradicted}
+use Rattle.ledger_rules.specs.declared.tally.Verdict.{Verdict}
+use Rattle.ledger_rules.specs.declared.tally.Verdict.TheVariants.{Open, Missing, Unaccounted, Contradicted}
 use Rattle.rad_audit.specs.declared.faults.Fault.{Fault}
 use Rattle.rad_audit.specs.declared.faults.Fault.TheVariants.{Usage, File, Configuration, Memory, Output}
 use Rattle.rad_audit.specs.declared.printing.Asked.{Asked}

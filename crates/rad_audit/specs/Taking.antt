@@ -2,18 +2,18 @@
 use Rattle.std.specs.Prelude.{◌≡◌, ◌≤◌, ◌+◌, ◌-◌, ◌^◌, min, ℕ, List, [], ◌∷◌, ◌++◌, Option, Some, None, option_copied, ⊤}
 use Rattle.rad_config.specs.Realm.{realm_of_packet}
 use Rattle.rad_lane.specs.Session.{session_id}
-use Rattle.rad_ledger.specs.Judging.{ArePacketsRight, IsInPlace, IsWrong}
-use Rattle.rad_ledger.specs.Leaving.{IsRightlyLeft, IsWronglyLeft}
-use Rattle.rad_ledger.specs.Counting.{Counts, LeavesGap}
-use Rattle.rad_ledger.specs.Numbers.{IsAsBefore, IsKnown, Keeps}
-use Rattle.rad_ledger.specs.declared.account.Account.{Account}
-use Rattle.rad_ledger.specs.declared.entry.Entry.{Entry}
-use Rattle.rad_ledger.specs.declared.left.Left.{Left}
-use Rattle.rad_ledger.specs.declared.line_request.LineRequest.{LineRequest}
-use Rattle.rad_ledger.specs.declared.reason.Reason.{Reason}
-use Rattle.rad_ledger.specs.declared.reason.Reason.TheVariants.{NotEntry, NoPacket, WrongSent, WrongReply, WrongResponse, SerialNotAbove, UnknownLane, RecordTwice, WrongWords, WrongSum}
-use Rattle.rad_ledger.specs.declared.tally.Gap.{Gap}
-use Rattle.rad_ledger.specs.declared.tally.Tally.{Tally}
+use Rattle.ledger_rules.specs.Judging.{ArePacketsRight, IsInPlace, IsWrong}
+use Rattle.ledger_rules.specs.Leaving.{IsRightlyLeft, IsWronglyLeft}
+use Rattle.ledger_rules.specs.Counting.{Counts, LeavesGap}
+use Rattle.ledger_rules.specs.Numbers.{IsAsBefore, IsKnown, Keeps}
+use Rattle.ledger_rules.specs.declared.account.Account.{Account}
+use Rattle.ledger_rules.specs.declared.entry.Entry.{Entry}
+use Rattle.ledger_rules.specs.declared.left.Left.{Left}
+use Rattle.ledger_rules.specs.declared.line_request.LineRequest.{LineRequest}
+use Rattle.ledger_rules.specs.declared.reason.Reason.{Reason}
+use Rattle.ledger_rules.specs.declared.reason.Reason.TheVariants.{NotEntry, NoPacket, WrongSent, WrongReply, WrongResponse, SerialNotAbove, UnknownLane, RecordTwice, WrongWords, WrongSum}
+use Rattle.ledger_rules.specs.declared.tally.Gap.{Gap}
+use Rattle.ledger_rules.specs.declared.tally.Tally.{Tally}
 use Rattle.rad_audit.specs.Facts.{number_at, value_at}
 use Rattle.rad_audit.specs.declared.wording.LineWords.{LineWords}
 use Rattle.rad_audit.specs.declared.taking.TakenEntry.{TakenEntry}

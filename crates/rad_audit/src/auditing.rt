@@ -19,9 +19,9 @@ use crate::taking::{TakenEntry, judge_stray, judge_stray_left, take_entry, take_
 use ledger_lines::{
     Begin, End, Hidden, LaneCount, Line, LineFault, MOST_LINE_OCTETS, Room, moment_of, read_line,
 };
+use ledger_rules::{EndCounts, Entry, Fates, Left, Reason};
 use libc::{STDERR_FILENO, isatty};
 use rad_auth::Secret;
-use rad_ledger::{EndCounts, Entry, Fates, Left, Reason};
 use rad_realms::{Config, Home};
 use std::alloc::{AllocError, Global};
 use std::fs;

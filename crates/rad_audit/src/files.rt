@@ -1,6 +1,6 @@
 //! The files of a run.
 
-use rad_ledger::Gap;
+use ledger_rules::Gap;
 
 /// Which files of a run were read.
 #[derive(Clone, Copy)]

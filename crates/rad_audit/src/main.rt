@@ -1,5 +1,5 @@
 //! Audits ledgers of rad_proxy: reads their lines, in the order of the files, and prints what is wrong with them, what is missing, and
-//! how much of each lane of each run is there. `ledger_lines` says what a line is, and `rad_ledger` what is right.
+//! how much of each lane of each run is there. `ledger_lines` says what a line is, and `ledger_rules` what is right.
 #![tactic(auto)]
 
 mod auditing;

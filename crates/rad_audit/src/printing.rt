@@ -9,7 +9,7 @@ use crate::named_file::NamedFile;
 use crate::rows::Row;
 use crate::runs::{Lane, Run};
 use crate::shown::Shown;
-use rad_ledger::{Entry, Gap, Left, Reason, Verdict, lane_verdict};
+use ledger_rules::{Entry, Gap, Left, Reason, Verdict, lane_verdict};
 use std::fmt;
 use std::io::Write;
 
@@ -217,9 +217,9 @@ impl<'a> LaneName<'a> {
 
 impl<'a> LaneCounts<'a> {
     ghost use Rattle.std.specs.Prelude.{◌≡◌, ℕ, List, not, ◌||◌, ◌==◌, IsTrue, string_bytes};
-    ghost use Rattle.rad_ledger.specs.Accounting.{JudgesLane};
-    ghost use Rattle.rad_ledger.specs.Counting.{Counts};
-    ghost use Rattle.rad_ledger.specs.Numbers.{Keeps};
+    ghost use Rattle.ledger_rules.specs.Accounting.{JudgesLane};
+    ghost use Rattle.ledger_rules.specs.Counting.{Counts};
+    ghost use Rattle.ledger_rules.specs.Numbers.{Keeps};
 
     /// Returns what this lane of a run has.
     pub fn of(run: &Run, lane: &'a Lane) -> LaneCounts<'a>

@@ -7,7 +7,7 @@ ghost use Rattle.rad_audit.specs.Rows.{row_of, row_of_left, name_of, name_words,
 use crate::cells::{Cell, ClientCell, NumberCell};
 use crate::facts::Facts;
 use crate::printing::LinePlace;
-use rad_ledger::{Entry, Left, LeftState, LineRequest, whole_packet};
+use ledger_rules::{Entry, Left, LeftState, LineRequest, whole_packet};
 use std::fmt;
 
 /// What became of a record.

@@ -7,7 +7,7 @@ use crate::read_file::{ReadFile, newer_of};
 use crate::shown::Word;
 use crate::times::Times;
 use ledger_lines::{Begin, LaneStart};
-use rad_ledger::{Account, Ending, Gap, Tally};
+use ledger_rules::{Account, Ending, Gap, Tally};
 use std::alloc::{AllocError, Global};
 use std::collections::BTreeMap;
 

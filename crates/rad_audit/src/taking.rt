@@ -1,14 +1,14 @@
 //! What becomes of an entry, and of a request that was left.
 
 ghost use Rattle.std.specs.Prelude.{◌≡◌, ◌<◌, ◌^◌, false, IfErr, IfOk, IsTrue, None, option_copied};
-ghost use Rattle.rad_ledger.specs.Judging.{IsWrong};
-ghost use Rattle.rad_ledger.specs.Leaving.{IsWronglyLeft};
-ghost use Rattle.rad_ledger.specs.Numbers.{IsAsBefore, IsKnown};
+ghost use Rattle.ledger_rules.specs.Judging.{IsWrong};
+ghost use Rattle.ledger_rules.specs.Leaving.{IsWronglyLeft};
+ghost use Rattle.ledger_rules.specs.Numbers.{IsAsBefore, IsKnown};
 ghost use Rattle.rad_audit.specs.Taking.{Leaves, Takes};
 
 use crate::wording::{LineWords, are_words_of};
+use ledger_rules::{Account, Entry, Gap, Left, Reason, Tally, judge, judge_left};
 use rad_auth::Secret;
-use rad_ledger::{Account, Entry, Gap, Left, Reason, Tally, judge, judge_left};
 use std::alloc::{AllocError, Global};
 
 /// What became of an entry.

@@ -5,8 +5,8 @@ ghost use Rattle.rad_packet.specs.Packet.{IsPacketText};
 ghost use Rattle.rad_audit.specs.Taking.{HasItsWords, words_of as the_words};
 
 use crate::facts::{ACCT_STATUS_TYPE, USER_NAME, number_at, value_at};
+use ledger_rules::{LineRequest, whole_packet};
 use rad_lane::session_of;
-use rad_ledger::{LineRequest, whole_packet};
 use rad_realms::realm_of_packet;
 
 /// What a line says of a record besides its packets.

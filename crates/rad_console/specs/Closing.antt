@@ -1,10 +1,10 @@
 -- What is left of all lanes at the end (own).
 use Rattle.std.specs.Prelude.{◌≡◌, ℕ, List, length, All, Option, MatchOption, ⊤}
-use Rattle.rad_locks.specs.declared.inlet.Inlet.{Inlet}
-use Rattle.rad_locks.specs.declared.report.LaneEnd.{LaneEnd}
-use Rattle.rad_locks.specs.declared.report.Report.{Report}
-use Rattle.rad_locks.specs.declared.report.Rest.{Rest}
-use Rattle.rad_locks.specs.declared.report.Rest.TheVariants.{Known, Unknown}
+use Rattle.locked_lanes.specs.declared.inlet.Inlet.{Inlet}
+use Rattle.locked_lanes.specs.declared.report.LaneEnd.{LaneEnd}
+use Rattle.locked_lanes.specs.declared.report.Report.{Report}
+use Rattle.locked_lanes.specs.declared.report.Rest.{Rest}
+use Rattle.locked_lanes.specs.declared.report.Rest.TheVariants.{Known, Unknown}
 use Rattle.rad_desk.specs.Ending.{IsReportOf}
 use Rattle.rad_desk.specs.Leaving.{Left, left_with, left_of_all}
 use Rattle.rad_console.specs.declared.lines.EndLine.{EndLine}

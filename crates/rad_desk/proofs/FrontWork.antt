@@ -10,9 +10,9 @@ use Rattle.rad_realms.specs.declared.checking.Incoming.{Incoming}
 use Rattle.rad_realms.specs.Configuration.{Configuration}
 use Rattle.rad_realms.specs.Incoming.{Takes}
 use Rattle.rad_lane.specs.declared.outgoing.Outgoing.{Outgoing}
-use Rattle.rad_locks.specs.declared.inlet.Inlet.{Inlet}
+use Rattle.locked_lanes.specs.declared.inlet.Inlet.{Inlet}
 use Rattle.rad_desk.specs.declared.wire.Delivery.{Delivery}
-use Rattle.rad_locks.specs.Inlet.{taken, SameInlet}
+use Rattle.locked_lanes.specs.Inlet.{taken, SameInlet}
 use Rattle.rad_desk.specs.Traffic.{Event, arrived, departed, told, endpoint, noted, logged}
 use Rattle.rad_desk.specs.Calls.{Passes, IsQuiet, IsALook, IsSent, AreAtMost}
 use Rattle.rad_desk.specs.Once.{IsAnswerTo, IsUnanswered, SendsBack, SendsAnAnswer, HandsOne, Hands, Part, quiet, back, given, events_of, IsRight, given_in, given_by, EachGave, WorksInFront}

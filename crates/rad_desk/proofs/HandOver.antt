@@ -4,8 +4,8 @@ use Rattle.std.specs.Prelude.{◌⊎◌, map as each}
 use Rattle.std.proofs.lemmas.List.{append_cancel_left}
 use Rattle.rad_realms.specs.Configuration.{Configuration}
 use Rattle.rad_lane.specs.declared.outgoing.Outgoing.{Outgoing}
-use Rattle.rad_locks.specs.declared.inlet.Inlet.{Inlet}
-use Rattle.rad_locks.specs.Inlet.{taken, SameInlet}
+use Rattle.locked_lanes.specs.declared.inlet.Inlet.{Inlet}
+use Rattle.locked_lanes.specs.Inlet.{taken, SameInlet}
 use Rattle.rad_desk.specs.Traffic.{Event, logged}
 use Rattle.rad_desk.specs.Calls.{Passes}
 use Rattle.rad_desk.specs.Once.{SendsBack, HandsOne, Hands, WorksInFront}

@@ -7,9 +7,9 @@ use Rattle.std.proofs.lemmas.List.Concat.{flat_map-append}
 use Rattle.std.proofs.lemmas.List.Elements.{All-nil, All-cons, All-append}
 use Rattle.rad_config.specs.declared.reading.address.Endpoint.{Endpoint}
 use Rattle.rad_realms.specs.Configuration.{HomeEntry}
-use Rattle.rad_locks.specs.declared.hearing.Told.{Told}
-use Rattle.rad_locks.specs.declared.hearing.DeskFault.{DeskFault}
-use Rattle.rad_locks.specs.Found.{HearsLawfully}
+use Rattle.locked_lanes.specs.declared.hearing.Told.{Told}
+use Rattle.locked_lanes.specs.declared.hearing.DeskFault.{DeskFault}
+use Rattle.locked_lanes.specs.Found.{HearsLawfully}
 use Rattle.rad_desk.specs.Traffic.{Event, arrived, told, drew, noted}
 use Rattle.rad_desk.specs.Calls.{Passes, IsALook, AreAtMost}
 use Rattle.rad_desk.specs.Working.{IsGiven, IsSentHome, Part, unheard, heard, rested, stepped, events_of, IsRight, IsReceipt, IsStep, OncePassed, WorksForHome}

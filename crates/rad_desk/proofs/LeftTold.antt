@@ -13,7 +13,7 @@ use Rattle.rad_tables.specs.Pairs.{Table}
 use Rattle.rad_lane.specs.declared.entry.Entry.{Entry}
 use Rattle.rad_lane.specs.declared.outgoing.Outgoing.{Outgoing}
 use Rattle.rad_lane.specs.Stamp.{Kept}
-use Rattle.rad_locks.specs.declared.report.LaneEnd.{LaneEnd}
+use Rattle.locked_lanes.specs.declared.report.LaneEnd.{LaneEnd}
 use Rattle.rad_desk.specs.Leaving.{Left, left_with, queued_left, untaken_left, restored, left_at, left_under, left_of_pairs, left_of_queue, left_of_lane, left_of_all}
 
 pub left_none : (before : Option (List Left)) → left_with before [] ≡ before

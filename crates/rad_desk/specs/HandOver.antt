@@ -3,8 +3,8 @@
 use Rattle.std.specs.Prelude.{◌≡◌, List, [], ◌∷◌, ◌++◌, map as each, Option, Some, None}
 use Rattle.rad_realms.specs.Configuration.{Configuration}
 use Rattle.rad_lane.specs.declared.outgoing.Outgoing.{Outgoing}
-use Rattle.rad_locks.specs.declared.inlet.Inlet.{Inlet}
-use Rattle.rad_locks.specs.Inlet.{taken}
+use Rattle.locked_lanes.specs.declared.inlet.Inlet.{Inlet}
+use Rattle.locked_lanes.specs.Inlet.{taken}
 use Rattle.rad_desk.specs.Traffic.{Event, logged}
 use Rattle.rad_desk.specs.Once.{Part, quiet, back, given, events_of, WorksInFront}
 

@@ -10,8 +10,8 @@ use Rattle.rad_lane.specs.declared.accepting.Taken.{Taken as Acceptance}
 use Rattle.rad_lane.specs.declared.accepting.Refusal.{Refusal}
 use Rattle.rad_lane.specs.declared.accepting.Refusal.TheVariants.{WrongLane}
 use Rattle.rad_lane.specs.Datagrams.{Datagrams}
-use Rattle.rad_locks.specs.Departures.{Returns, AcceptsLawfully, UnlessWrongLane}
-use Rattle.rad_locks.specs.Found.{LeadsElsewhere, IfWrongLane}
+use Rattle.locked_lanes.specs.Departures.{Returns, AcceptsLawfully, UnlessWrongLane}
+use Rattle.locked_lanes.specs.Found.{LeadsElsewhere, IfWrongLane}
 use Rattle.rad_desk.specs.declared.handling.Handled.{Handled}
 use Rattle.rad_desk.specs.declared.handling.Handled.TheVariants.{Taken, Answered}
 

@@ -12,10 +12,10 @@ use Rattle.rad_lane.specs.declared.outgoing.Outgoing.{Outgoing}
 use Rattle.rad_lane.specs.declared.stamp.Stamp.{Stamp}
 use Rattle.rad_lane.specs.Stamp.{Recorded, Kept}
 use Rattle.rad_lane.specs.Outstanding.{Outstanding}
-use Rattle.rad_locks.specs.declared.report.LaneEnd.{LaneEnd}
-use Rattle.rad_locks.specs.declared.report.Rest.{Rest}
-use Rattle.rad_locks.specs.declared.report.Rest.TheVariants.{Known, Unknown}
-use Rattle.rad_locks.specs.Fates.{marked_number}
+use Rattle.locked_lanes.specs.declared.report.LaneEnd.{LaneEnd}
+use Rattle.locked_lanes.specs.declared.report.Rest.{Rest}
+use Rattle.locked_lanes.specs.declared.report.Rest.TheVariants.{Known, Unknown}
+use Rattle.locked_lanes.specs.Fates.{marked_number}
 use Rattle.rad_desk.specs.declared.leaving.LeftRecord.{LeftRecord}
 use Rattle.rad_desk.specs.declared.leaving.LeftState.{LeftState}
 use Rattle.rad_desk.specs.declared.leaving.LeftState.TheVariants as state

@@ -13,11 +13,11 @@ use Rattle.rad_realms.specs.Configuration.{Configuration}
 use Rattle.rad_realms.specs.Incoming.{Takes}
 use Rattle.rad_lane.specs.declared.outgoing.Outgoing.{Outgoing}
 use Rattle.rad_lane.specs.declared.accepting.Taken.TheVariants.{Again}
-use Rattle.rad_locks.specs.declared.inlet.Inlet.{Inlet}
+use Rattle.locked_lanes.specs.declared.inlet.Inlet.{Inlet}
 use Rattle.rad_desk.specs.declared.wire.Delivery.{Delivery}
-use Rattle.rad_locks.specs.Departures.{AcceptsLawfully, IsVerifiedResponse}
-use Rattle.rad_locks.specs.Fates.{EachOnce}
-use Rattle.rad_locks.specs.Inlet.{taken, SameInlet}
+use Rattle.locked_lanes.specs.Departures.{AcceptsLawfully, IsVerifiedResponse}
+use Rattle.locked_lanes.specs.Fates.{EachOnce}
+use Rattle.locked_lanes.specs.Inlet.{taken, SameInlet}
 use Rattle.rad_desk.specs.Traffic.{Event, arrived, departed, told, endpoint}
 use Rattle.rad_desk.specs.Calls.{IsQuiet, IsALook}
 

@@ -8,10 +8,10 @@ use Rattle.rad_tables.specs.declared.slots.Slot.{Slot}
 use Rattle.rad_lane.specs.declared.stepping.Action.{Action}
 use Rattle.rad_lane.specs.declared.stepping.Action.TheVariants.{Sent, Resent, Probed, WentDown, WentUp, Idle}
 use Rattle.rad_desk.specs.declared.wire.Delivery.{Delivery}
-use Rattle.rad_locks.specs.declared.hearing.Told.{Told}
-use Rattle.rad_locks.specs.declared.hearing.DeskFault.{DeskFault}
-use Rattle.rad_locks.specs.Departures.{StepsFor}
-use Rattle.rad_locks.specs.Found.{HearsLawfully}
+use Rattle.locked_lanes.specs.declared.hearing.Told.{Told}
+use Rattle.locked_lanes.specs.declared.hearing.DeskFault.{DeskFault}
+use Rattle.locked_lanes.specs.Departures.{StepsFor}
+use Rattle.locked_lanes.specs.Found.{HearsLawfully}
 use Rattle.rad_desk.specs.Traffic.{Event, arrived, departed, told, drew}
 use Rattle.rad_desk.specs.Calls.{IsALook, IsSent}
 

@@ -3,8 +3,8 @@
 ghost use Rattle.std.specs.Prelude.{◌≡◌};
 ghost use Rattle.rad_desk.specs.Reports.{note_of};
 
+use locked_lanes::{DeskFault, Origin, Spent, Standing};
 use rad_lane::Refusal;
-use rad_locks::{DeskFault, Origin, Spent, Standing};
 use rad_realms::{Dropped, Endpoint};
 use rad_tables::{Moment, Slot};
 

@@ -3,9 +3,9 @@
 ghost use Rattle.rad_lane.specs.Datagrams.{Datagrams};
 ghost use Rattle.rad_desk.specs.Handling.{Handles};
 
+use locked_lanes::Proxy;
 use rad_auth::answer_status;
 use rad_lane::{Refusal, Taken};
-use rad_locks::Proxy;
 use rad_packet::Datagram;
 use rad_realms::Incoming;
 use rad_tables::Moment;

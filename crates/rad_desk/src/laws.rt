@@ -2,4 +2,4 @@
 //! their full contracts here, by `&mut self`; and [`handle`], which decides what a checked datagram of a NAS leads to.
 
 pub use crate::handling::{Handled, handle};
-pub use rad_locks::{Desk, RecordQueue, agrees};
+pub use locked_lanes::{Desk, RecordQueue, agrees};

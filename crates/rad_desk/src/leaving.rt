@@ -7,9 +7,9 @@ ghost use Rattle.rad_desk.specs.Leaving.{age_at, as_left, left_with, number_sent
 
 use crate::ledger::Ledger;
 use block_queue::Fifo;
+use locked_lanes::{LaneEnd, RecordQueue, Report, Rest};
 use rad_auth::{ACCOUNTING_REQUEST, MARK_LENGTH, Reply};
 use rad_lane::{Entry, Outgoing, Record, Sending};
-use rad_locks::{LaneEnd, RecordQueue, Report, Rest};
 use rad_packet::{GREATEST_LENGTH, HEADER_LENGTH};
 use rad_tables::{Moment, Slot, Slots};
 

@@ -1,5 +1,5 @@
 //! The workers of the proxy (own): the front, which serves the clients, and a worker for each lane, which serves its
-//! home server. They make the calls of `rad_locks`, whose items are passed on here: [`open`] makes the [`Proxy`], which
+//! home server. They make the calls of `locked_lanes`, whose items are passed on here: [`open`] makes the [`Proxy`], which
 //! holds the lanes behind their locks, and an [`Inlet`] for each lane, from which the front takes responses without a
 //! lock.
 //!
@@ -29,11 +29,11 @@ pub use gate::{Asked, Call, Gate, Go, Note, Repeat, UpReason, Worker, WorkerRepo
 pub use lanes::lane_worker;
 pub use leaving::{LeftRecord, LeftState, tell_left};
 pub use ledger::{Handed, Ledger, NoLedger};
-pub use marks::count_marks;
-pub use rad_locks::{
+pub use locked_lanes::{
     CloseFault, DeskFault, Inlet, LaneEnd, OpenFault, Origin, Proxy, Report, Rest, Session, Spent,
     Standing, Stepped, Told, open,
 };
+pub use marks::count_marks;
 pub use tally::Tally;
 pub use told_values::{status_of, user_of};
 pub use wire::{Delivery, Received, Traffic, Wire};

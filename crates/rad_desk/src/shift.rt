@@ -8,7 +8,7 @@ ghost use Rattle.rad_desk.specs.Keeping.{Keeps};
 use crate::gate::{Call, Gate, Go, Worker, WorkerReport};
 use crate::tally::Tally;
 use crate::wire::{Delivery, Received, Wire};
-use rad_locks::{Origin, Proxy};
+use locked_lanes::{Origin, Proxy};
 use rad_packet::Datagram;
 use rad_realms::Endpoint;
 use std::alloc::Global;

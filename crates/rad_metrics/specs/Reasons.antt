@@ -2,7 +2,7 @@
 use Rattle.std.specs.Prelude.{ℕ, ◌+◌, List, codes, Option, Some, None}
 use Rattle.rad_realms.specs.Printed.{dropped_name, dropped_place}
 use Rattle.rad_lane.specs.Printed.{refusal_text, refusal_place}
-use Rattle.rad_locks.specs.Printed.{desk_fault_name, desk_fault_place}
+use Rattle.locked_lanes.specs.Printed.{desk_fault_name, desk_fault_place}
 use Rattle.rad_desk.specs.declared.gate.Repeat.TheVariants as repeat
 use Rattle.rad_desk.specs.declared.gate.UpReason.{UpReason}
 use Rattle.rad_desk.specs.declared.gate.UpReason.TheVariants as up

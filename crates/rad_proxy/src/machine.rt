@@ -1,11 +1,11 @@
 //! What the program needs of the system, and of the machine that it runs on.
 
+use ledger_writer::{LedgerDisk, RuntimeDisk};
 use rad_addresses::{LocalAddresses, read_local_addresses};
 use rad_files::read_at_most;
 use rad_metrics::{SystemFiles, count_own_descriptors, read_system_file};
 use rad_server::PortSettings;
 use rad_telemetry::{ReplaceFile, RuntimeFiles, TraceFault, TraceText, read_trace_text};
-use rad_writer::{LedgerDisk, RuntimeDisk};
 use std::alloc::{AllocGlobal, Global};
 use std::env::{self, Env, VarError};
 use std::fs::{self, Files, OpenFile};

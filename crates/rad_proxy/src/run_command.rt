@@ -7,6 +7,7 @@ use crate::loading::load;
 use crate::machine::{Host, Machine};
 use crate::small_stack::SmallStack;
 use ledger_state::LedgerState;
+use ledger_writer::{LedgerInlet, OpenedLedger, find_folder, open_ledger, start_writer};
 use libc::{STDIN_FILENO, STDOUT_FILENO};
 use rad_console::EndLine;
 use rad_log::{ErrorLines, Log, Logged, ToldStream, open_each_level, open_log, tell_reason};
@@ -16,7 +17,6 @@ use rad_telemetry::{
     CounterTexts, StopFlag, Telemetry, Tracer, find_counter_file, find_trace_file, report,
     start_texts,
 };
-use rad_writer::{LedgerInlet, OpenedLedger, find_folder, open_ledger, start_writer};
 use std::alloc::{AllocError, Global};
 use std::io::{self, Error};
 use std::net::Net;

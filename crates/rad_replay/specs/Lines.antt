@@ -11,9 +11,9 @@ use Rattle.rad_lane.specs.declared.turning.TurnFault.{TurnFault}
 use Rattle.rad_desk.specs.Printed.{desk_fault_text}
 use Rattle.rad_desk.specs.declared.handling.Handled.{Handled}
 use Rattle.rad_desk.specs.declared.handling.Handled.TheVariants.{Taken, Answered}
-use Rattle.rad_locks.specs.declared.hearing.DeskFault.{DeskFault}
-use Rattle.rad_locks.specs.declared.hearing.Told.{Told}
-use Rattle.rad_locks.specs.declared.hearing.Told.TheVariants.{Answer, ProbeAnswered}
+use Rattle.locked_lanes.specs.declared.hearing.DeskFault.{DeskFault}
+use Rattle.locked_lanes.specs.declared.hearing.Told.{Told}
+use Rattle.locked_lanes.specs.declared.hearing.Told.TheVariants.{Answer, ProbeAnswered}
 use Rattle.rad_replay.specs.PacketText.{packet_text, sent_head_text, sent_text}
 use Rattle.rad_replay.specs.declared.lines.Cut.{Cut}
 use Rattle.rad_replay.specs.declared.path.PathFault.{PathFault}

@@ -1,5 +1,5 @@
 use Rattle.std.proofs.Common.{◌≡◌, ℕ, ◌<◌, take, get_or}
-use Rattle.rad_locks.specs.declared.report.LaneEnd.{LaneEnd}
+use Rattle.locked_lanes.specs.declared.report.LaneEnd.{LaneEnd}
 use Rattle.rad_console.specs.Closing.{IsKnownAt, known_at}
 use Rattle.rad_console.specs.Totals.{count_in_all}
 use Rattle.rad_console.proofs.closing.count_untaken.Given as goal

@@ -1,6 +1,6 @@
 use Rattle.std.proofs.Common.{refl, subst, inl}
 use Rattle.rad_desk.specs.Calls.{IsALook}
-use Rattle.rad_locks.specs.Departures.{StepsFor}
+use Rattle.locked_lanes.specs.Departures.{StepsFor}
 use Rattle.rad_desk.specs.Working.{IsGiven, IsStep, OncePassed}
 use Rattle.rad_desk.proofs.CallsJoined.{passes_none}
 use Rattle.rad_desk.proofs.HomeWork.{part_rested, part_stepped}

@@ -1,0 +1,109 @@
+-- The line that a parcel is, by its head and its packets.
+use Rattle.std.specs.Prelude.{◌≡◌, ℕ, ◌⊎◌, ⊤, List, [], Option, Some, None, MatchOption, option_copied, slice_get, string_bytes}
+use Rattle.ledger_files.specs.Moments.{IsTimeOf, moment_text}
+use Rattle.ledger_files.specs.declared.utc.UtcTime.{UtcTime}
+use Rattle.ledger_lines.specs.Written.{HasValueBehind, entry_value, left_value}
+use Rattle.rad_config.specs.Realm.{realm_of_packet}
+use Rattle.rad_desk.specs.ToldValues.{first_value, status_in}
+use Rattle.rad_lane.specs.Session.{session_id}
+use Rattle.ledger_rules.specs.declared.entry.Entry.{Entry}
+use Rattle.ledger_rules.specs.declared.left.Left.{Left}
+use Rattle.ledger_rules.specs.declared.line_request.LineRequest.{LineRequest}
+use Rattle.rad_packet.specs.Reading.{ReadsAs, Refuses}
+use Rattle.rad_packet.specs.declared.faults.ReadFault.{ReadFault}
+use Rattle.ledger_writer.specs.declared.parcel.Fate.{Fate}
+use Rattle.ledger_writer.specs.declared.parcel.ParcelKind.{ParcelKind}
+use Rattle.ledger_writer.specs.declared.parcel.ParcelKind.TheVariants.{Left as left, Response as response}
+use Rattle.ledger_writer.specs.declared.parcel.Parcel.{Parcel}
+use Rattle.ledger_writer.specs.declared.parcel.ParcelHead.{ParcelHead}
+use Rattle.ledger_writer.specs.declared.run_names.RunNames.{RunNames}
+
+-- What the octets of a request tell besides its head: what their packet does, or nothing if they are none.
+pub record TellsPacket (octets : List ℕ) (realm session : Option (List ℕ)) (status : Option ℕ) (user : Option (List ℕ)) : Type 0 where
+  pub packet : List ℕ
+  pub reads : ReadsAs octets packet
+  pub its_realm : realm ≡ realm_of_packet packet
+  pub its_session : session ≡ session_id packet
+  pub its_status : status ≡ status_in (first_value 40 packet)
+  pub its_user : user ≡ first_value 1 packet
+
+pub record TellsNothing (octets : List ℕ) (realm session : Option (List ℕ)) (status : Option ℕ) (user : Option (List ℕ)) : Type 0 where
+  pub fault : ReadFault
+  pub refused : Refuses octets fault
+  pub no_realm : realm ≡ None
+  pub no_session : session ≡ None
+  pub no_status : status ≡ None
+  pub no_user : user ≡ None
+
+abbrev pub Tells : List ℕ → Option (List ℕ) → Option (List ℕ) → Option ℕ → Option (List ℕ) → Type 0
+Tells octets realm session status user = TellsPacket octets realm session status user ⊎ TellsNothing octets realm session status user
+
+-- The name of a lane's home server. A lane that the run has not has no name.
+abbrev pub IsHome : RunNames → ℕ → List ℕ → Type 0
+IsHome names lane home = MatchOption (slice_get names.homes.items lane) (home ≡ []) (λ name. home ≡ string_bytes name)
+
+-- The request that a line is about has what the head has, names the run and the lane's home server, and tells what the packet to the home
+-- server does, or the packet as it came, if it is left.
+pub record IsAboutOf (names : RunNames) (head : ParcelHead) (octets moment : List ℕ) (about : LineRequest) : Type 0 where
+  pub run : about.run ≡ names.run
+  pub time : about.time.now ≡ moment
+  pub home : IsHome names head.lane about.home.now
+  pub lane : about.lane ≡ head.lane
+  pub number : about.number ≡ head.number
+  pub client : about.client ≡ head.client
+  pub port : about.port ≡ head.port
+  pub identifier : about.identifier ≡ head.identifier
+  pub authenticator : about.authenticator ≡ head.authenticator
+  pub told : Tells octets (option_copied about.realm) (option_copied about.session) about.status (option_copied about.user)
+
+-- The entry has this serial and these packets.
+pub record IsEntryOf (names : RunNames) (head : ParcelHead) (its_serial : ℕ) (sending answer given moment : List ℕ) (entry : Entry) : Type 0 where
+  pub about : IsAboutOf names head sending moment entry.about
+  pub serial : entry.serial ≡ its_serial
+  pub sent : entry.sent.now ≡ sending
+  pub reply : entry.reply.now ≡ answer
+  pub response : entry.response.now ≡ given
+
+-- The request that is left has this fate and these octets.
+pub record IsLeftOf (names : RunNames) (head : ParcelHead) (fate : Fate) (octets moment : List ℕ) (since : Option (List ℕ)) (left : Left) : Type 0 where
+  pub about : IsAboutOf names head octets moment left.about
+  pub state : left.state ≡ fate.state
+  pub sendings : left.sendings ≡ fate.sendings
+  pub accepted : option_copied left.accepted ≡ since
+  pub request : left.request.now ≡ octets
+
+-- The text of the moment that is so many milliseconds after 1970-01-01T00:00:00Z; and that of one that may be there.
+pub record IsMomentText (milliseconds : ℕ) (text : List ℕ) : Type 0 where
+  pub moment : UtcTime
+  pub is : IsTimeOf milliseconds moment
+  pub written : text ≡ moment_text moment
+
+abbrev pub IsMomentIfAny : Option ℕ → Option (List ℕ) → Type 0
+IsMomentIfAny None None = ⊤
+IsMomentIfAny None (Some text) = ⊥
+IsMomentIfAny (Some milliseconds) None = ⊥
+IsMomentIfAny (Some milliseconds) (Some text) = IsMomentText milliseconds text
+
+-- Octets that are those before, and behind them the line of an entry, or of a request that is left, that the parcel is.
+pub record HasEntryBehind (names : RunNames) (parcel : Parcel) (its_serial : ℕ) (before all : List ℕ) : Type 0 where
+  pub moment : List ℕ
+  pub entry : Entry
+  pub time : IsMomentText parcel.head.time moment
+  pub is : IsEntryOf names parcel.head its_serial parcel.sent.now parcel.reply.now parcel.response.now moment entry
+  pub line : HasValueBehind before all (entry_value entry)
+
+pub record HasLeftBehind (names : RunNames) (parcel : Parcel) (fate : Fate) (before all : List ℕ) : Type 0 where
+  pub moment : List ℕ
+  pub since : Option (List ℕ)
+  pub left : Left
+  pub time : IsMomentText parcel.head.time moment
+  pub accepted : IsMomentIfAny fate.accepted since
+  pub is : IsLeftOf names parcel.head fate parcel.sent.now moment since left
+  pub line : HasValueBehind before all (left_value left)
+
+abbrev pub HasLineOf : ParcelKind → RunNames → Parcel → List ℕ → List ℕ → Type 0
+HasLineOf (response serial sent_count reply_count response_count) names parcel before all = HasEntryBehind names parcel serial before all
+HasLineOf (left fate request_count) names parcel before all = HasLeftBehind names parcel fate before all
+
+abbrev pub HasParcelBehind : RunNames → Parcel → List ℕ → List ℕ → Type 0
+HasParcelBehind names parcel before all = HasLineOf parcel.head.its names parcel before all

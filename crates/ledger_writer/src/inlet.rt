@@ -1,0 +1,161 @@
+//! What the front hands each response to, and at the end each request that is left.
+
+ghost use Rattle.std.specs.Prelude.{◌≡◌, ◌⊎◌, Some, MatchBool, vec_len};
+ghost use Rattle.ledger_writer.specs.Buffer.{Gives, GivesNothing, PutsEntry};
+ghost use Rattle.ledger_writer.specs.Parcels.{IsCounted};
+
+use crate::giving::ParcelGiver;
+use crate::parcel::{Parcel, ParcelHead};
+use crate::shares::{ClientShares, NOTHING, Taking};
+use ledger_state::LedgerState;
+use rad_desk::{Handed, Ledger, LeftRecord, Wire};
+use rad_lane::{Counts, Outgoing};
+use rad_metrics::time_since_1970;
+use std::sync::{Arc, Wait, WaitMethods};
+use std::thread;
+use std::time::{Clock, Duration, Instant};
+
+/// How many milliseconds pass between two looks whether there is room.
+const LOOK: u64 = 1;
+
+/// What the front puts into the buffer. An entry that finds no room there, or is beyond the share of its client, is dropped
+/// and counted. A request that is left waits for room, as long as there is time.
+#[derive(Drop)]
+pub struct LedgerInlet<'a, R> {
+    pub(crate) clock: &'a R,
+    /// How long requests that are left may wait for room, from the first one on.
+    pub(crate) longest: Duration,
+    /// The last time that was read, in milliseconds since 1970.
+    pub(crate) time: u64,
+    pub(crate) giver: ParcelGiver,
+    /// What the entries of each client took of the buffer so far, in the order of the configuration.
+    pub(crate) puts: Vec<Taking>,
+    pub(crate) shares: Arc<ClientShares>,
+    pub(crate) state: Arc<LedgerState>,
+    /// What was handed over so far, also what was dropped.
+    pub(crate) handed: Handed,
+}
+
+impl<R: Clock> LedgerInlet<'_, R> {
+    /// Returns the time, in milliseconds since 1970. It is the last one if the clock can't be read.
+    fn read_time(&mut self) -> u64
+        ensures time { self.new.time ≡ result }
+        ensures same { (self.new.handed ≡ self.old.handed) × (self.new.giver ≡ self.old.giver) }
+    {
+        self.time = time_since_1970(self.clock).unwrap_or(self.time);
+        self.time
+    }
+}
+
+impl<R: Clock + Wait> Ledger for LedgerInlet<'_, R> {
+    ghost kept = { λ inlet. Some inlet.handed.responses };
+
+    fn begin(&mut self) {
+        self.state.begin();
+    }
+
+    fn keep<W: Wire>(&mut self, outgoing: &Outgoing, wire: &W) {
+        let lane = outgoing.reply.mark().lane;
+        self.state.hand_over(lane, outgoing.serial);
+        let row = self.shares.row(outgoing.client);
+        if self.put(outgoing, row) {
+            self.state.count_put(self.time);
+        } else {
+            self.state.count_dropped(row);
+        }
+        self.handed.add(outgoing, wire);
+    }
+
+    fn leave(&mut self, told: &LeftRecord<'_>) {
+        let since = self.state.count_left(self.clock, told.lane);
+        let parcel = Parcel::of_left(self.read_time(), told);
+        self.give_waiting(&parcel, since);
+    }
+
+    fn end_lane(&mut self, lane: u16, counts: &Counts) {
+        self.state.end_lane(lane, counts.accepted);
+    }
+}
+
+impl<R: Clock> LedgerInlet<'_, R> {
+    /// Puts the entry of a response to the client in a row into the buffer, whole, and returns whether there was room for it
+    /// within the client's share.
+    fn put(&mut self, outgoing: &Outgoing, row: Option<usize>) -> bool
+        ensures put { MatchBool result (PutsEntry self.old outgoing.now self.new) (GivesNothing self.old.giver self.new.giver) }
+        ensures handed { self.new.handed ≡ self.old.handed }
+    {
+        let time = self.read_time();
+        let parcel = Parcel::of(time, outgoing);
+        let held = self.held(&parcel.head, row);
+        let is_put = self.giver.give_share(&parcel, self.puts.len(), held);
+        if is_put {
+            add_put(&mut self.puts, row, &parcel);
+        }
+        is_put
+    }
+
+    /// Returns how much of the buffer the entries of the client in a row take, if this one would leave less than half of it
+    /// free. Before that a client has no share.
+    fn held(&mut self, head: &ParcelHead, row: Option<usize>) -> Taking
+        ensures giver { GivesNothing self.old.giver self.new.giver }
+        ensures same { (self.new.handed ≡ self.old.handed) × (self.new.time ≡ self.old.time) }
+    {
+        let Some(row) = row else {
+            return NOTHING;
+        };
+        if !head.fits() || !self.giver.is_past_half(head) {
+            return NOTHING;
+        }
+        match self.puts.get(row) {
+            Some(put) => self.shares.held(row, *put),
+            None => NOTHING,
+        }
+    }
+}
+
+fn add_put(puts: &mut Vec<Taking>, row: Option<usize>, parcel: &Parcel<'_>)
+    ensures { vec_len puts.new ≡ vec_len puts.old }
+{
+    let Some(row) = row else {
+        return;
+    };
+    let octets = parcel.sent.len() as u64;
+    let octets = octets.saturating_add(parcel.reply.len() as u64);
+    let octets = octets.saturating_add(parcel.response.len() as u64);
+    if let Some(put) = puts.get_mut(row) {
+        *put = Taking {
+            octets: put.octets.saturating_add(octets),
+            places: put.places.saturating_add(1),
+        };
+    }
+}
+
+impl<R: Clock + Wait> LedgerInlet<'_, R> {
+    /// Puts a parcel into the buffer once it has room for it, unless the time for that is over. It counts from this
+    /// moment; if that is not known, nothing waits.
+    fn give_waiting(&mut self, parcel: &Parcel<'_>, since: Option<Instant>)
+        requires { IsCounted parcel.now }
+        ensures { Gives self.old.giver parcel.now self.new.giver ⊎ GivesNothing self.old.giver self.new.giver }
+    {
+        for _ in self.clock.forever() {
+            if self.giver.give(parcel) {
+                return;
+            }
+            if self.is_over(since) {
+                return;
+            }
+            thread::sleep(self.clock, Duration::from_millis(LOOK));
+        }
+    }
+
+    /// Returns whether the time for which requests that are left may wait is over, counted from this moment.
+    fn is_over(&self, since: Option<Instant>) -> bool {
+        match since {
+            Some(since) => match since.elapsed(self.clock) {
+                Ok(passed) => passed >= self.longest,
+                Err(_) => true,
+            },
+            None => true,
+        }
+    }
+}

@@ -1,0 +1,374 @@
+//! The lines of a ledger, made of what passed through the buffer.
+
+ghost use Rattle.std.specs.Prelude.{◌≡◌, ◌<◌, ◌^◌, IfOk, MatchOption, Some, length, option_copied, option_map, slice_get, string_bytes};
+ghost use Rattle.ledger_lines.specs.Written.{HasLineBehind};
+ghost use Rattle.ledger_writer.specs.Entries.{HasEntryBehind, HasLeftBehind, HasParcelBehind, IsAboutOf, IsEntryOf, IsLeftOf, IsMomentIfAny, IsMomentText, Tells};
+ghost use Rattle.ledger_writer.specs.RunLines.{AreCounted, AreStarts, BeginsBehind, EndsBehind, NamesIfAny, count_in, lane_number, serial_in};
+
+use crate::parcel::{Fate, Parcel, ParcelHead, ParcelKind};
+use crate::progress::LaneProgress;
+use crate::run_names::RunNames;
+use ledger_files::{FoundFile, SUM_OCTETS, UtcTime};
+use ledger_lines::{
+    Begin, End, FileBefore, LaneCount, LaneStart, write_begin, write_end, write_entry, write_left,
+};
+use ledger_rules::{Entry, Left, LineRequest};
+use ledger_state::LedgerState;
+use rad_desk::{status_of, user_of};
+use rad_lane::session_of;
+use rad_metrics::VERSION;
+use rad_packet::read;
+use rad_realms::realm_of_packet;
+use std::alloc::{AllocError, Global};
+
+/// The greatest serial of a ledger.
+const GREATEST_SERIAL: u64 = 9_223_372_036_854_775_807;
+
+/// Writes the line of a parcel behind what these octets are.
+pub(crate) fn line_of(
+    alloc: Global,
+    names: &RunNames,
+    parcel: &Parcel<'_>,
+    out: Vec<u8>,
+) -> Result<Vec<u8>, AllocError>
+    ensures line { IfOk result (λ all. HasLineBehind out.items all.items) }
+    ensures value { IfOk result (λ all. HasParcelBehind names.now parcel.now out.items all.items) }
+{
+    match parcel.head.its {
+        ParcelKind::Response { serial, .. } => entry_line(alloc, names, parcel, serial, out),
+        ParcelKind::Left { fate, .. } => left_line(alloc, names, parcel, fate, out),
+    }
+}
+
+fn entry_line(
+    alloc: Global,
+    names: &RunNames,
+    parcel: &Parcel<'_>,
+    serial: u64,
+    out: Vec<u8>,
+) -> Result<Vec<u8>, AllocError>
+    ensures line { IfOk result (λ all. HasLineBehind out.items all.items) }
+    ensures value { IfOk result (λ all. HasEntryBehind names.now parcel.now serial out.items all.items) }
+{
+    let Parcel {
+        head,
+        sent,
+        reply,
+        response,
+    } = *parcel;
+    let time = time_text(alloc, head.time)?;
+    let entry = entry_of(names, head, serial, sent, reply, response, time.as_str());
+    write_entry(alloc, &entry, out)
+}
+
+fn left_line(
+    alloc: Global,
+    names: &RunNames,
+    parcel: &Parcel<'_>,
+    fate: Fate,
+    out: Vec<u8>,
+) -> Result<Vec<u8>, AllocError>
+    ensures line { IfOk result (λ all. HasLineBehind out.items all.items) }
+    ensures value { IfOk result (λ all. HasLeftBehind names.now parcel.now fate out.items all.items) }
+{
+    let head = parcel.head;
+    let time = time_text(alloc, head.time)?;
+    let accepted = accepted_text(alloc, fate.accepted)?;
+    let left = left_of(
+        names,
+        head,
+        fate,
+        parcel.sent,
+        time.as_str(),
+        lent(&accepted),
+    );
+    write_left(alloc, &left, out)
+}
+
+fn lent(text: &Option<String>) -> Option<&str>
+    ensures { option_copied result ≡ option_map string_bytes text.now }
+{
+    match text {
+        Some(text) => Some(text.as_str()),
+        None => None,
+    }
+}
+
+/// Returns when a request was accepted, as a line has it, if it is known.
+fn accepted_text(alloc: Global, time: Option<u64>) -> Result<Option<String>, AllocError>
+    ensures { IfOk result (λ text. IsMomentIfAny time (option_map string_bytes text)) }
+{
+    match time {
+        Some(time) => Ok(Some(time_text(alloc, time)?)),
+        None => Ok(None),
+    }
+}
+
+fn left_of<'a>(
+    names: &'a RunNames,
+    head: ParcelHead,
+    fate: Fate,
+    request: &'a [u8],
+    time: &'a str,
+    accepted: Option<&'a str>,
+) -> Left<'a>
+    ensures { IsLeftOf names.now head fate request.now time.now (option_copied accepted.entry) result }
+{
+    Left {
+        about: about_of(names, head, request, time),
+        state: fate.state,
+        sendings: fate.sendings,
+        accepted,
+        request,
+    }
+}
+
+/// Returns a time in milliseconds since 1970, as a line has it.
+fn time_text(alloc: Global, time: u64) -> Result<String, AllocError>
+    ensures { IfOk result (λ text. IsMomentText time (string_bytes text)) }
+{
+    let moment = UtcTime::of(time);
+    format!(in alloc; "{moment}")
+}
+
+fn entry_of<'a>(
+    names: &'a RunNames,
+    head: ParcelHead,
+    serial: u64,
+    sent: &'a [u8],
+    reply: &'a [u8],
+    response: &'a [u8],
+    time: &'a str,
+) -> Entry<'a>
+    ensures { IsEntryOf names.now head serial sent.now reply.now response.now time.now result }
+{
+    Entry {
+        about: about_of(names, head, sent, time),
+        serial,
+        sent,
+        reply,
+        response,
+    }
+}
+
+/// Returns the request that the line of a parcel is about, by the parcel's head and this packet, with this text for the
+/// line's time.
+fn about_of<'a>(
+    names: &'a RunNames,
+    head: ParcelHead,
+    packet: &'a [u8],
+    time: &'a str,
+) -> LineRequest<'a>
+    ensures { IsAboutOf names.now head packet.now time.now result }
+{
+    let told = told_in(packet);
+    let client = head.client;
+    let authenticator = head.authenticator;
+    LineRequest {
+        run: names.run,
+        time,
+        home: names.home(head.lane),
+        lane: head.lane,
+        number: head.number,
+        client,
+        port: head.port,
+        identifier: head.identifier,
+        authenticator,
+        realm: told.realm,
+        session: told.session,
+        status: told.status,
+        user: told.user,
+    }
+}
+
+/// What a request tells besides its head.
+#[derive(Clone, Copy)]
+struct Told<'a> {
+    realm: Option<&'a [u8]>,
+    session: Option<&'a [u8]>,
+    status: Option<u32>,
+    user: Option<&'a [u8]>,
+}
+
+/// Returns what the packet of these octets tells, or nothing if they are no packet.
+fn told_in(request: &[u8]) -> Told<'_>
+    ensures { Tells request.now (option_copied result.realm) (option_copied result.session) result.status (option_copied result.user) }
+{
+    match read(request) {
+        Ok(packet) => Told {
+            realm: realm_of_packet(&packet),
+            session: session_of(&packet),
+            status: status_of(&packet),
+            user: user_of(&packet),
+        },
+        Err(_) => Told {
+            realm: None,
+            session: None,
+            status: None,
+            user: None,
+        },
+    }
+}
+
+/// What the line that begins a file says besides its run and its lanes.
+#[derive(Clone, Copy)]
+pub(crate) struct FileStart<'a> {
+    /// The number of the file.
+    pub(crate) file: u64,
+    /// The sum of the lines before it.
+    pub(crate) sum: [u8; SUM_OCTETS],
+    /// The file of another run that was written last, if there is one and this is the first file.
+    pub(crate) before: Option<&'a FoundFile>,
+    /// Whether the file before it in the run is gone, with its entries.
+    pub(crate) is_gone: bool,
+}
+
+/// Writes the line that begins a file behind what these octets are. It tells the serial of the next entry of each lane, by the
+/// progress of the lanes.
+pub(crate) fn begin_line(
+    alloc: Global,
+    names: &RunNames,
+    time: u64,
+    start: FileStart<'_>,
+    progress: &[LaneProgress],
+    out: Vec<u8>,
+) -> Result<Vec<u8>, AllocError>
+    ensures line { IfOk result (λ all. HasLineBehind out.items all.items) }
+    ensures begin { IfOk result (λ all. BeginsBehind names.now start.entry progress.now out.items all.items) }
+{
+    let time = time_text(alloc, time)?;
+    let lanes = lane_starts(alloc, names, start.is_gone, progress)?;
+    let begin = begin_of(names, time.as_str(), start, lanes);
+    write_begin(alloc, &begin, out)
+}
+
+fn begin_of<'a>(
+    names: &RunNames,
+    time: &'a str,
+    start: FileStart<'a>,
+    lanes: Vec<LaneStart<'a>>,
+) -> Begin<'a>
+    ensures run { result.run ≡ names.now.run }
+    ensures file { result.file ≡ start.entry.file }
+    ensures sum { result.sum ≡ Some start.entry.sum }
+    ensures before { NamesIfAny (option_copied start.entry.before) result.before }
+    ensures lanes { result.lanes.items ≡ lanes.entry.items }
+{
+    let sum = Some(start.sum);
+    Begin {
+        run: names.run,
+        time,
+        version: VERSION,
+        file: start.file,
+        sum,
+        before: file_before(start.before),
+        lanes,
+    }
+}
+
+fn file_before(found: Option<&FoundFile>) -> Option<FileBefore<'_>>
+    ensures { NamesIfAny (option_copied found.entry) result }
+{
+    let found = found?;
+    let sha256 = found.sha256;
+    Some(FileBefore {
+        name: found.name.as_str(),
+        octets: found.octets,
+        sha256,
+    })
+}
+
+/// Returns the run's lanes, each with the serial of its next entry.
+fn lane_starts<'a>(
+    alloc: Global,
+    names: &'a RunNames,
+    is_gone: bool,
+    progress: &[LaneProgress],
+) -> Result<Vec<LaneStart<'a>>, AllocError>
+    ensures { IfOk result (λ lanes. AreStarts names.now.homes.items is_gone progress.now lanes.items) }
+{
+    let mut lanes = Vec::with_capacity(alloc, names.homes.len())?;
+    for lane in 0..names.homes.len() {
+        let serial = serial_at(progress, is_gone, lane);
+        lanes.push(LaneStart {
+            lane: number_of(lane),
+            home: names.homes[lane].as_str(),
+            serial,
+        })?;
+    }
+    Ok(lanes)
+}
+
+/// Returns the run's lanes, each with how many responses of it were handed over, and, once that was told, how many requests it
+/// accepted and how many of them are left.
+fn lane_counts(
+    alloc: Global,
+    names: &RunNames,
+    state: &LedgerState,
+) -> Result<Vec<LaneCount>, AllocError>
+    ensures { IfOk result (λ lanes. AreCounted (length names.now.homes.items) lanes.items) }
+{
+    let mut lanes = Vec::with_capacity(alloc, names.homes.len())?;
+    for lane in 0..names.homes.len() {
+        let end = state.ended_lane(lane);
+        lanes.push(count_of(lane, state.handed(lane), end))?;
+    }
+    Ok(lanes)
+}
+
+/// Returns a lane, with how many responses of it were handed over, and, once that was told, how many requests it accepted and
+/// how many of them are left.
+fn count_of(lane: usize, entries: u64, end: Option<(u64, u64)>) -> LaneCount
+    ensures { result ≡ count_in lane entries end }
+{
+    let (accepted, left) = match end {
+        Some((accepted, left)) => (Some(accepted), Some(left)),
+        None => (None, None),
+    };
+    LaneCount {
+        lane: number_of(lane),
+        entries,
+        accepted,
+        left,
+    }
+}
+
+fn number_of(lane: usize) -> u16
+    ensures { result ≡ lane_number lane }
+{
+    u16::try_from(lane).unwrap_or(u16::MAX)
+}
+
+/// Returns the serial of a lane's next entry.
+fn serial_at(progress: &[LaneProgress], is_gone: bool, lane: usize) -> u64
+    ensures bounded { result < 2 ^ 63 }
+    ensures value { result ≡ serial_in is_gone (slice_get progress.now lane) }
+{
+    match progress.get(lane) {
+        Some(lane) => lane.start(is_gone).min(GREATEST_SERIAL),
+        None => 0,
+    }
+}
+
+/// Writes the line that ends the run behind what these octets are. This is the sum of the lines before it.
+pub(crate) fn end_line(
+    alloc: Global,
+    names: &RunNames,
+    time: u64,
+    sum: [u8; SUM_OCTETS],
+    state: &LedgerState,
+    out: Vec<u8>,
+) -> Result<Vec<u8>, AllocError>
+    ensures line { IfOk result (λ all. HasLineBehind out.items all.items) }
+    ensures end { IfOk result (λ all. EndsBehind names.now sum out.items all.items) }
+{
+    let time = time_text(alloc, time)?;
+    let lanes = lane_counts(alloc, names, state)?;
+    let end = End {
+        run: names.run,
+        time: time.as_str(),
+        sum: Some(sum),
+        lanes,
+    };
+    write_end(alloc, &end, out)
+}

@@ -1,0 +1,183 @@
+//! A response, or a request that is left, as it passes through the buffer: a head, and the packets: three of a response,
+//! one of a request that is left.
+
+ghost use Rattle.std.specs.Prelude.{◌≡◌, ◌↔◌, ◌-◌, IsTrue, option_map};
+ghost use Rattle.ledger_writer.specs.Parcels.{Fits, IsCounted, IsParcelOf, IsParcelOfLeft, octets_of};
+
+use rad_auth::{Mark, RequestHead};
+use rad_desk::{LeftRecord, LeftState};
+use rad_lane::Outgoing;
+
+/// The greatest length of a packet (RFC 2865 section 3).
+const LONGEST: usize = 4096;
+
+/// The most octets of the packets of a parcel.
+pub(crate) const MOST: usize = 3 * LONGEST;
+
+/// What a parcel has beside its packets.
+#[derive(Clone, Copy)]
+pub(crate) struct ParcelHead {
+    /// When the response was handed over, or the request was told as left, in milliseconds since 1970.
+    pub(crate) time: u64,
+    /// The number of the request in its lane.
+    pub(crate) number: u64,
+    pub(crate) lane: u16,
+    pub(crate) client: [u8; 4],
+    pub(crate) port: u16,
+    pub(crate) identifier: u8,
+    pub(crate) authenticator: [u8; 16],
+    pub(crate) its: ParcelKind,
+}
+
+/// What a parcel is of.
+#[derive(Clone, Copy)]
+pub(crate) enum ParcelKind {
+    Response {
+        serial: u64,
+        /// How many octets the packet to the home server has.
+        sent: usize,
+        /// How many octets the home server's reply has.
+        reply: usize,
+        /// How many octets the response has.
+        response: usize,
+    },
+    /// A request that is left.
+    Left {
+        fate: Fate,
+        /// How many octets it has.
+        request: usize,
+    },
+}
+
+/// What became of a request that is left.
+#[derive(Clone, Copy)]
+pub(crate) struct Fate {
+    pub(crate) state: LeftState,
+    /// How often it was sent, if that is known.
+    pub(crate) sendings: Option<u32>,
+    /// When it was accepted, in milliseconds since 1970, if that is known.
+    pub(crate) accepted: Option<u64>,
+}
+
+/// A parcel: its head and its packets.
+#[derive(Clone, Copy)]
+pub(crate) struct Parcel<'a> {
+    pub(crate) head: ParcelHead,
+    /// The packet to the home server, or the request that is left.
+    pub(crate) sent: &'a [u8],
+    /// The home server's reply; nothing of a request that is left.
+    pub(crate) reply: &'a [u8],
+    /// The response; nothing of a request that is left.
+    pub(crate) response: &'a [u8],
+}
+
+impl<'a> Parcel<'a> {
+    /// Returns the parcel of a response that is handed over at this time.
+    pub(crate) fn of(time: u64, outgoing: &'a Outgoing) -> Parcel<'a>
+        ensures counted { IsCounted result }
+        ensures parcel { IsParcelOf time outgoing.now result }
+    {
+        let sent = outgoing.reply.sending();
+        let reply = outgoing.reply.reply();
+        let response = outgoing.reply.response();
+        let Mark { lane, number } = outgoing.reply.mark();
+        let RequestHead {
+            identifier,
+            authenticator,
+        } = outgoing.reply.head();
+        let client = outgoing.client;
+        let head = ParcelHead {
+            time,
+            number,
+            lane,
+            client,
+            port: outgoing.port,
+            identifier,
+            authenticator,
+            its: ParcelKind::Response {
+                serial: outgoing.serial,
+                sent: sent.len(),
+                reply: reply.len(),
+                response: response.len(),
+            },
+        };
+        Parcel {
+            head,
+            sent,
+            reply,
+            response,
+        }
+    }
+
+    /// Returns the parcel of a request that is told as left at this time.
+    pub(crate) fn of_left(time: u64, told: &LeftRecord<'a>) -> Parcel<'a>
+        ensures counted { IsCounted result }
+        ensures parcel { IsParcelOfLeft time told.now result }
+    {
+        let client = told.client;
+        let authenticator = told.authenticator;
+        let fate = Fate {
+            state: told.state,
+            sendings: told.sendings,
+            accepted: accepted_at(time, told.age),
+        };
+        let head = ParcelHead {
+            time,
+            number: told.number,
+            lane: told.lane,
+            client,
+            port: told.port,
+            identifier: told.identifier,
+            authenticator,
+            its: ParcelKind::Left {
+                fate,
+                request: told.request.len(),
+            },
+        };
+        Parcel {
+            head,
+            sent: told.request,
+            reply: &[],
+            response: &[],
+        }
+    }
+}
+
+fn accepted_at(time: u64, age: Option<u64>) -> Option<u64>
+    ensures { result ≡ option_map (λ its. time - its) age }
+{
+    Some(time.saturating_sub(age?))
+}
+
+impl ParcelHead {
+    /// Returns whether no packet is longer than a packet may be.
+    pub(crate) fn fits(&self) -> bool
+        ensures { IsTrue result ↔ Fits self.now }
+    {
+        match self.its {
+            ParcelKind::Response {
+                sent,
+                reply,
+                response,
+                ..
+            } => sent <= LONGEST && reply <= LONGEST && response <= LONGEST,
+            ParcelKind::Left { request, .. } => request <= LONGEST,
+        }
+    }
+
+    /// Returns how many octets the packets have together.
+    pub(crate) fn octets(&self) -> usize
+        requires { Fits self.now }
+        ensures { result ≡ octets_of self.now }
+    {
+        match self.its {
+            ParcelKind::Response {
+                sent,
+                reply,
+                response,
+                ..
+            } => sent + reply + response,
+            ParcelKind::Left { request, .. } => request,
+        }
+    }
+}

@@ -1,0 +1,26 @@
+-- What a contract sees of a desk (own).
+use Rattle.std.specs.Prelude.{◌≡◌, ℕ, List}
+use Rattle.rtrb.specs.Ring.{sent, known_free, SameProducer}
+use Rattle.rad_lane.specs.declared.outgoing.Outgoing.{Outgoing}
+use Rattle.rad_lane.specs.Book.{Book}
+use Rattle.locked_lanes.specs.declared.desk.Desk.{Desk}
+
+-- the book of its lane
+abbrev pub book : Desk → Book
+book desk = desk.lane
+
+-- all responses that were added to its ring, in order
+abbrev pub given : Desk → List Outgoing
+given desk = sent desk.giver
+
+-- how many free places of the ring its sending end has seen
+abbrev pub free_places : Desk → ℕ
+free_places desk = known_free desk.giver
+
+-- The sending end is unchanged.
+abbrev pub SameOutlet : Desk → Desk → Type 0
+SameOutlet old new = new.giver ≡ old.giver
+
+-- It is the sending end of the same ring.
+abbrev pub SameRing : Desk → Desk → Type 0
+SameRing old new = SameProducer old.giver new.giver

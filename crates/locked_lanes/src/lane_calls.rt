@@ -1,0 +1,124 @@
+//! The calls of a desk's lane. None of them adds to the ring; [`Desk::hear`], in a file of its own, does.
+
+ghost use Rattle.std.specs.Prelude.{◌≡◌, ◌↔◌, IsTrue, IsSome};
+ghost use Rattle.rad_lane.specs.Accepts.{Accepts, IsTaken};
+ghost use Rattle.rad_lane.specs.Datagrams.{Datagrams};
+ghost use Rattle.rad_lane.specs.Steps.{Steps, AllotsAnother};
+ghost use Rattle.rad_lane.specs.Drains.{Drains};
+ghost use Rattle.rad_lane.specs.Counting.{counts_of, IsDone};
+ghost use Rattle.rad_lane.specs.Lawful.{IsLawful};
+ghost use Rattle.locked_lanes.specs.Outlet.{IsOutlet};
+ghost use Rattle.locked_lanes.specs.Lawful.{AddUp};
+ghost use Rattle.locked_lanes.specs.Desk.{book, given, SameOutlet};
+ghost use Rattle.locked_lanes.specs.Departures.{Departs, Returns, AcceptsLawfully};
+ghost use Rattle.locked_lanes.specs.Found.{StepsLawfully};
+ghost use Rattle.rad_lane.specs.Setup.{IsOf};
+
+use crate::desk::Desk;
+use crate::for_proof::step_lawfully;
+use rad_auth::Secret;
+use rad_lane::{Action, Counts, Refusal, Stamp, Taken};
+use rad_packet::Datagram;
+use rad_realms::Checked;
+use rad_tables::Moment;
+use std::alloc::Global;
+
+impl Desk {
+    /// Returns whether a request leads to the lane, by the lane's own realms. Its realm is compared with one of them,
+    /// or with each if the request was checked against another configuration than the one that set up the lane.
+    pub fn takes(&self, request: &Checked<'_>) -> bool
+        ensures { IsTrue result ↔ IsTaken (book self.now) request.now }
+    {
+        self.lane.takes(request)
+    }
+
+    /// Returns whether the lane has this number and its home server this secret.
+    pub(crate) fn is_of(&self, number: u16, secret: &Secret) -> bool
+        ensures { IsTrue result ↔ IsOf (book self.now).setup number secret.now }
+    {
+        self.lane.is_of(number, secret)
+    }
+
+    /// Passes a request, which must lead to this lane, to the lane.
+    ///
+    /// # Errors
+    ///
+    /// The reason for which a new request is refused. The desk and the datagram are unchanged.
+    pub fn accept(
+        &mut self,
+        alloc: Global,
+        request: &Checked<'_>,
+        moment: Moment,
+        datagram: &mut Datagram,
+    ) -> Result<Taken, Refusal>
+        requires { IsTaken (book self.old) request.now }
+        ensures accepts { Accepts (book self.old) request.now moment result (record { before = datagram.old; after = datagram.new }) (book self.new) }
+        ensures outlet { SameOutlet self.old self.new }
+        ensures returns { Returns result (record { before = datagram.old; after = datagram.new }) }
+        ensures lawful { AcceptsLawfully request.now moment result (record { before = datagram.old; after = datagram.new }) }
+    {
+        self.keep_law();
+        let taken = self.lane.accept(alloc, request, moment, datagram);
+        self.keep_law();
+        taken
+    }
+
+    /// Does the lane's next step at this moment. `random` is the Authenticator of a probe.
+    pub fn step(&mut self, moment: Moment, random: [u8; 16], datagram: &mut Datagram) -> Action
+        ensures steps { Steps (book self.old) moment random result (record { before = datagram.old; after = datagram.new }) (book self.new) }
+        ensures outlet { SameOutlet self.old self.new }
+        ensures departs { Departs result (record { before = datagram.old; after = datagram.new }) }
+        ensures another { AllotsAnother (book self.old) result }
+        ensures lawful { IsLawful (book self.old) × IsLawful (book self.new) }
+        ensures some { StepsLawfully moment random result (record { before = datagram.old; after = datagram.new }) }
+    {
+        step_lawfully(&mut self.lane, moment, random, datagram)
+    }
+
+    /// Drains the lane: it accepts no new request from now on. Returns how many requests the lane had accepted in all
+    /// when it was drained. A second call changes nothing.
+    pub fn drain(&mut self) -> u64
+        ensures drains { Drains (book self.old) result (book self.new) }
+        ensures outlet { SameOutlet self.old self.new }
+    {
+        self.lane.drain()
+    }
+
+    pub(crate) fn has_number(&self, number: u16) -> bool
+        ensures { IsTrue result ↔ (book self.now).setup.lane ≡ number }
+    {
+        self.number == number
+    }
+
+    /// Returns the counts of the lane.
+    pub fn counts(&self) -> Counts
+        ensures counts { result ≡ counts_of (book self.now) }
+        ensures add_up { AddUp result }
+        ensures lawful { IsLawful (book self.now) }
+        ensures outlet { IsOutlet (book self.now) (given self.now) }
+    {
+        self.lane.counts()
+    }
+
+    /// Returns whether the lane is drained.
+    pub fn is_draining(&self) -> bool
+        ensures { IsTrue result ↔ IsSome (book self.now).drain }
+    {
+        self.counts().draining
+    }
+
+    /// Returns whether the lane is drained, with nothing queued and nothing outstanding.
+    pub fn is_done(&self) -> bool
+        ensures { IsTrue result ↔ IsDone (book self.now) }
+    {
+        self.lane.is_done()
+    }
+
+    /// Returns the stamps of the requests that the book holds.
+    pub(crate) fn accepted(&self) -> &[Stamp]
+        ensures value { result.now ≡ (book self.now).accepted }
+        ensures lawful { IsLawful (book self.now) }
+    {
+        self.lane.accepted()
+    }
+}

@@ -1,0 +1,218 @@
+//! The lanes behind their locks.
+
+ghost use Rattle.std.specs.Prelude.{◌≡◌, ◌<◌, ◌≤◌, ◌⊎◌, length, map as each, All, IfOk, IfSome, MatchResult, [], Err};
+ghost use Rattle.std.specs.List.{range_with_len};
+ghost use Rattle.rad_lane.specs.declared.accepting.Refusal.TheVariants.{WrongLane};
+ghost use Rattle.rad_lane.specs.Datagrams.{Datagrams};
+ghost use Rattle.locked_lanes.specs.Inlet.{lane_of, taken};
+ghost use Rattle.locked_lanes.specs.Departures.{Departs, Returns, StepsHolding, AcceptsLawfully, UnlessWrongLane};
+ghost use Rattle.locked_lanes.specs.Found.{LeadsElsewhere, IfWrongLane, StepsLawfully, IsOwn, IsOther, DrainsLawfully};
+ghost use Rattle.locked_lanes.specs.Lawful.{AreLawful, AddUp};
+
+use crate::desk::{Desk, OpenFault};
+use crate::inlet::Inlet;
+use rad_auth::Secret;
+use rad_lane::{Action, Counts, Refusal, Setup, Taken};
+use rad_packet::Datagram;
+use rad_realms::{Checked, Config};
+use rad_tables::Moment;
+use std::alloc::Global;
+use std::hint::spin_loop;
+use std::marker::Model;
+use std::sync::{Mutex, MutexGuard, Wait};
+
+/// How many times a thread tries a lock before it sleeps until it has the lock. A lane is locked for about as long as
+/// hashing a packet takes, which is less than sleeping and waking take.
+const TRIES: u32 = 2000;
+
+/// The lanes of all home servers, each with the sending end of its ring behind a lock of its own.
+///
+/// Contracts see a proxy as the number of its lanes.
+#[derive(Drop)]
+pub struct Proxy {
+    /// The desks, in the order of the lanes.
+    pub(crate) desks: Vec<Mutex<Desk>>,
+}
+
+impl Model for Proxy {
+    ghost use Rattle.std.specs.Prelude.{ℕ, ◌≤◌, length};
+
+    ghost Value = { ℕ };
+
+    ghost view = { λ p. length p.desks.items };
+
+    ghost invariant = { λ p. length p.desks.items ≤ 64 };
+}
+
+/// The result of a step of a lane.
+#[derive(Clone, Copy)]
+pub struct Stepped {
+    /// What the step did.
+    pub action: Action,
+    /// How many requests the book holds after the step.
+    pub held: u64,
+}
+
+/// Makes a lane for each home server of the configuration, and the inlets of their rings, in the order of the lanes.
+///
+/// # Errors
+///
+/// `OutOfMemory` if memory is refused.
+pub fn open(alloc: Global, config: &Config) -> Result<(Proxy, Vec<Inlet>), OpenFault>
+    ensures lanes { IfOk result (λ opened. opened.0 ≡ length config.now.homes) }
+    ensures inlets { IfOk result (λ opened. each lane_of opened.1.items ≡ range_with_len 0 opened.0) }
+    ensures taken { IfOk result (λ opened. All (λ i. taken i ≡ []) opened.1.items) }
+{
+    let lanes = config.homes().len() as u16;
+    let Ok(mut desks) = Vec::with_capacity(alloc, usize::from(lanes)) else {
+        return Err(OpenFault::OutOfMemory);
+    };
+    let Ok(mut inlets) = Vec::with_capacity(alloc, usize::from(lanes)) else {
+        return Err(OpenFault::OutOfMemory);
+    };
+    for lane in 0..lanes {
+        let Ok(setup) = Setup::of(alloc, config, lane) else {
+            return Err(OpenFault::OutOfMemory);
+        };
+        let (desk, inlet) = Desk::pair(alloc, setup)?;
+        desks.push_reserved(Mutex::new(desk));
+        inlets.push_reserved(inlet);
+    }
+    Ok((Proxy { desks }, inlets))
+}
+
+impl Proxy {
+    /// Returns the number of lanes.
+    pub fn lanes(&self) -> u16
+        ensures { result ≡ self.now }
+    {
+        self.desks.len() as u16
+    }
+
+    /// Passes a request to its lane.
+    ///
+    /// # Errors
+    ///
+    /// `WrongLane`, before all else, if there is no such lane or the request does not lead to it. Such a request was
+    /// checked against another configuration. Otherwise the reason for which the lane refuses it. The datagram is
+    /// unchanged.
+    pub fn accept(
+        &self,
+        rt: &impl Wait,
+        alloc: Global,
+        request: &Checked<'_>,
+        moment: Moment,
+        datagram: &mut Datagram,
+    ) -> Result<Taken, Refusal>
+        ensures lane { self.now ≤ request.now.lane → result ≡ Err WrongLane }
+        ensures wrong { IfWrongLane result ((self.now ≤ request.now.lane) ⊎ LeadsElsewhere request.now) }
+        ensures returns { Returns result (record { before = datagram.old; after = datagram.new }) }
+        ensures accepts { UnlessWrongLane result (AcceptsLawfully request.now moment result (record { before = datagram.old; after = datagram.new })) }
+    {
+        if request.lane() >= self.lanes() {
+            return Err(Refusal::WrongLane);
+        }
+        let mut desk = self.lock(rt, request.lane());
+        desk.keep_law();
+        if !desk.takes(request) {
+            return Err(Refusal::WrongLane);
+        }
+        desk.accept(alloc, request, moment, datagram)
+    }
+
+    /// Does a lane's next step at this moment. `random` is the Authenticator of a probe.
+    pub fn step(
+        &self,
+        rt: &impl Wait,
+        lane: u16,
+        moment: Moment,
+        random: [u8; 16],
+        datagram: &mut Datagram,
+    ) -> Action
+        requires { lane < self.now }
+        ensures steps { StepsLawfully moment random result (record { before = datagram.old; after = datagram.new }) }
+        ensures departs { Departs result (record { before = datagram.old; after = datagram.new }) }
+    {
+        self.lock(rt, lane).step(moment, random, datagram)
+    }
+
+    /// Does a lane's next step like [`Proxy::step`], if the lane has this number and its home server this secret, and
+    /// otherwise does nothing. It returns the action with the number of requests that the book then holds, both under
+    /// one hold of the lock.
+    pub fn step_for(
+        &self,
+        rt: &impl Wait,
+        lane: u16,
+        secret: &Secret,
+        moment: Moment,
+        random: [u8; 16],
+        datagram: &mut Datagram,
+    ) -> Option<Stepped>
+        requires { lane < self.now }
+        ensures { IfSome result (λ stepped. StepsHolding lane secret.now moment random stepped.action stepped.held (record { before = datagram.old; after = datagram.new })) }
+    {
+        let mut desk = self.lock(rt, lane);
+        if !desk.is_of(lane, secret) {
+            return None;
+        }
+        let action = desk.step(moment, random, datagram);
+        let counts = desk.counts();
+        Some(Stepped {
+            action,
+            held: counts.accepted - counts.opening,
+        })
+    }
+
+    /// Drains a lane: it accepts no new request from now on. Returns how many requests it had accepted in all when it
+    /// was drained.
+    pub fn drain(&self, rt: &impl Wait, lane: u16) -> u64
+        requires { lane < self.now }
+        ensures { DrainsLawfully lane result }
+    {
+        let Ok(mut desk) = own(self.lock(rt, lane), lane) else {
+            return 0;
+        };
+        let count = desk.drain();
+        desk.keep_law();
+        count
+    }
+
+    /// Returns the counts of a lane.
+    pub fn counts(&self, rt: &impl Wait, lane: u16) -> Counts
+        requires { lane < self.now }
+        ensures lawful { AreLawful result }
+        ensures add_up { AddUp result }
+    {
+        self.lock(rt, lane).counts()
+    }
+
+    /// Locks a lane, trying for a while before the thread sleeps.
+    pub(crate) fn lock(&self, rt: &impl Wait, lane: u16) -> MutexGuard<'_, Desk>
+        requires { lane < self.now }
+    {
+        let desk = &self.desks[usize::from(lane)];
+        for _ in 0..TRIES {
+            if let Some(guard) = desk.try_lock() {
+                return guard;
+            }
+            spin_loop();
+        }
+        desk.lock(rt)
+    }
+}
+
+/// Returns the desk if its lane has this number, and otherwise, as an error, the desk as it is.
+pub(crate) fn own<'b>(
+    desk: MutexGuard<'b, Desk>,
+    lane: u16,
+) -> Result<MutexGuard<'b, Desk>, MutexGuard<'b, Desk>>
+    ensures same { MatchResult result (λ found. found.value ≡ desk.entry.value) (λ found. found.value ≡ desk.entry.value) }
+    ensures found { MatchResult result (λ found. IsOwn lane found.value) (λ found. IsOther lane found.value) }
+{
+    desk.keep_law();
+    if desk.has_number(lane) {
+        Ok(desk)
+    } else {
+        Err(desk)
+    }
+}

@@ -1,7 +1,0 @@
-use Rattle.std.proofs.Common.{ℕ, ◌<◌, get_or}
-use Rattle.rad_lane.specs.Outstanding.{AnswerKept}
-use Rattle.rad_locks.specs.Ending.{AgreesAmong}
-use Rattle.rad_locks.proofs.ending.agree.Given as goal
-
-abbrev pub invariant-loop-answer : goal.invariant-loop-answer
-invariant-loop-answer l = (k : ℕ) (d : AnswerKept) → k < l.answer-index → AgreesAmong l.rest (get_or l.answered k d)

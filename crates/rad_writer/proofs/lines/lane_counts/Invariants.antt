@@ -1,6 +1,0 @@
-use Rattle.std.proofs.Common.{◌≤◌, length}
-use Rattle.rad_writer.specs.RunLines.{AreCounted}
-use Rattle.rad_writer.proofs.lines.lane_counts.Given as goal
-
-abbrev pub invariant-loop-lane : goal.invariant-loop-lane
-invariant-loop-lane l = AreCounted l.lane l.lanes.items × (l.lane ≤ length l.names.homes.items)
