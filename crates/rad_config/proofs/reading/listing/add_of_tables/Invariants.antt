@@ -1,4 +1,4 @@
-use Rattle.std.proofs.Common.{◌≡◌, ◌≤◌, ◌++◌, [], length, take, drop}
+use Rattle.std.proofs.Common.{◌≡◌, ◌++◌, [], take, drop}
 use Rattle.rad_config.specs.internal.Values.{tables_of_values}
 use Rattle.rad_config.specs.Faults.{each_faults}
 use Rattle.rad_config.proofs.reading.listing.add_of_tables.Given as goal
