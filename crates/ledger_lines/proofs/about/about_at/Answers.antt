@@ -40,20 +40,3 @@ returns-in_err-status c = part _ _ _ c.from_residual-in_err-status.result c.in_e
 
 pub returns-in_err-user : goal.returns-in_err-user
 returns-in_err-user c = part _ _ _ c.from_residual-in_err-user.result c.in_err-user.field-0.0 c.from_residual-in_err-user.ensures.1 c.in_err-user.ensures (λ p. (option_copied p.0.user, p.1.user))
-
-pub returns : goal.returns
-returns c = record {
-  run = c.in_ok-run.ensures;
-  time = c.in_ok-time.ensures;
-  home = c.in_ok-home.ensures;
-  lane = c.in_ok-lane.ensures;
-  record_is = c.in_ok-number.ensures;
-  client = c.in_ok-client.ensures;
-  port = c.in_ok-port.ensures;
-  identifier = c.in_ok-identifier.ensures;
-  authenticator = c.in_ok-authenticator.ensures;
-  realm = c.in_ok-realm.ensures;
-  session = c.in_ok-session.ensures;
-  status = c.in_ok-status.ensures;
-  user = c.in_ok-user.ensures;
-}
