@@ -50,39 +50,54 @@ pub record StepsLawfully (moment : ℕ) (random : List ℕ) (action : Action) (d
   pub stays : IsLawful new
   pub steps : Steps old moment random action d new
 
--- A lawful desk, whose lane has this number.
-pub record IsOwn (lane : ℕ) (desk : Desk) : Type 0 where
-  pub lawful : IsLawful (book desk)
-  pub own : (book desk).setup.lane ≡ lane
+-- A desk hears a datagram if its lane has this number. Otherwise the datagram is `Unknown`, and lane and ring are
+-- unchanged.
+abbrev pub HearsFor : ℕ → Desk → ℕ → ℕ → List ℕ → Result Told DeskFault → Desk → Type 0
+HearsFor lane old moment port datagram result new =
+    (((book old).setup.lane ≡ lane) × Tells old moment port datagram result new)
+    ⊎ (((book old).setup.lane ≢ lane) × (result ≡ Err (Lane Unknown)) × (book new ≡ book old) × SameOutlet old new)
 
--- A lawful desk, whose lane has another number.
-pub record IsOther (lane : ℕ) (desk : Desk) : Type 0 where
-  pub lawful : IsLawful (book desk)
-  pub other : (book desk).setup.lane ≢ lane
-
--- What a call for the lane of a number does to a desk of that lane. A desk of another lane is unchanged, and `Refuses`
--- holds. The desk is lawful after it.
-pub record DoesFor (lane : ℕ) (Does : Desk → Desk → Type 0) (Refuses : Type 0) : Type 0 where
+-- A desk did so whose book was lawful, and is lawful after it.
+pub record HearsLawfully (lane moment port : ℕ) (datagram : List ℕ) (result : Result Told DeskFault) : Type 0 where
   pub old : Desk
   pub new : Desk
-  pub does : (IsOwn lane old × Does old new) ⊎ (IsOther lane old × (new ≡ old) × Refuses)
+  pub lawful : IsLawful (book old)
   pub stays : IsLawful (book new)
+  pub hears : HearsFor lane old moment port datagram result new
 
--- The desk hears a datagram; of another lane it is `Unknown`.
-abbrev pub HearsLawfully : ℕ → ℕ → ℕ → List ℕ → Result Told DeskFault → Type 0
-HearsLawfully lane moment port datagram result =
-    DoesFor lane (λ old new. Tells old moment port datagram result new) (result ≡ Err (Lane Unknown))
+-- A book is drained if its lane has this number. Otherwise it is unchanged, and the count is 0.
+abbrev pub DrainsFor : ℕ → Book → ℕ → Book → Type 0
+DrainsFor lane old count new =
+    ((old.setup.lane ≡ lane) × Drains old count new) ⊎ ((old.setup.lane ≢ lane) × (count ≡ 0) × (new ≡ old))
 
--- Its lane is drained; another lane is not, and the count is 0.
-abbrev pub DrainsLawfully : ℕ → ℕ → Type 0
-DrainsLawfully lane count = DoesFor lane (λ old new. Drains (book old) count (book new) × SameOutlet old new) (count ≡ 0)
+-- So it was with a lawful book, which is lawful after it.
+pub record DrainsLawfully (lane count : ℕ) : Type 0 where
+  pub old : Book
+  pub new : Book
+  pub lawful : IsLawful old
+  pub stays : IsLawful new
+  pub drains : DrainsFor lane old count new
 
--- What is reported of the request that marks the home server down.
-abbrev pub TellsSpentLawfully : ℕ → ℕ → Option Spent → Type 0
-TellsSpentLawfully lane moment result =
-    DoesFor lane (λ old new. MatchOption result (NoneSpent (book old)) (TellsSpent (book old) moment) × (new ≡ old)) (result ≡ None)
+-- What is reported of the request that marks the home server down, if the book's lane has this number.
+abbrev pub TellsSpentFor : ℕ → Book → ℕ → Option Spent → Type 0
+TellsSpentFor lane book moment result =
+    ((book.setup.lane ≡ lane) × MatchOption result (NoneSpent book) (TellsSpent book moment))
+    ⊎ ((book.setup.lane ≢ lane) × (result ≡ None))
 
--- The origin of the request that is outstanding under a pair, if there is one.
-abbrev pub TellsOriginLawfully : ℕ → Slot → Option Origin → Type 0
-TellsOriginLawfully lane slot result =
-    DoesFor lane (λ old new. (result ≡ option_map (λ o. origin_of o.request) (outstanding_under (book old) slot)) × (new ≡ old)) (result ≡ None)
+-- So it is of a lawful book.
+pub record TellsSpentLawfully (lane moment : ℕ) (result : Option Spent) : Type 0 where
+  pub book : Book
+  pub lawful : IsLawful book
+  pub tells : TellsSpentFor lane book moment result
+
+-- The origin of the request that is outstanding under a pair, if there is one and the book's lane has this number.
+abbrev pub TellsOriginFor : ℕ → Book → Slot → Option Origin → Type 0
+TellsOriginFor lane book slot result =
+    ((book.setup.lane ≡ lane) × (result ≡ option_map (λ o. origin_of o.request) (outstanding_under book slot)))
+    ⊎ ((book.setup.lane ≢ lane) × (result ≡ None))
+
+-- So it is of a lawful book.
+pub record TellsOriginLawfully (lane : ℕ) (slot : Slot) (result : Option Origin) : Type 0 where
+  pub book : Book
+  pub lawful : IsLawful book
+  pub tells : TellsOriginFor lane book slot result

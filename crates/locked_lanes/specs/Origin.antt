@@ -1,5 +1,5 @@
 -- Where an outstanding request comes from (own).
-use Rattle.std.specs.Prelude.{take, Option, option_map, option_and_then}
+use Rattle.std.specs.Prelude.{ℕ, take, Option, option_map, option_and_then}
 use Rattle.std.specs.FinMap as map
 use Rattle.rad_config.specs.Realm.{user_name}
 use Rattle.rad_tables.specs.declared.slots.Slot.{Slot}

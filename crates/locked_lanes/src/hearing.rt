@@ -4,18 +4,15 @@ ghost use Rattle.std.specs.Prelude.{◌≡◌, ◌<◌, ◌+◌, [], ◌∷◌, 
 ghost use Rattle.rtrb.specs.Ring.{sent, known_free, SameProducer};
 ghost use Rattle.locked_lanes.specs.Fates.{MayFollow};
 ghost use Rattle.locked_lanes.specs.Tells.{Tells};
-ghost use Rattle.locked_lanes.specs.Found.{HearsLawfully};
 
 use crate::desk::Desk;
 use crate::for_proof::keep_law_of;
 use crate::numbered::Numbered;
-use crate::proxy::{Proxy, own};
 use rad_lane::{HearFault, Heard, Outgoing};
 use rad_tables::Moment;
 use rtrb::Producer;
 use std::alloc::Global;
 use std::fmt;
-use std::sync::Wait;
 
 /// What a datagram from the home server was.
 #[derive(Clone, Copy, Debug, PartialEq, Eq)]
@@ -108,33 +105,6 @@ impl Desk {
             Ok(Heard::ProbeAnswered) => Ok(Told::ProbeAnswered),
             Err(fault) => Err(DeskFault::Lane(fault)),
         }
-    }
-}
-
-impl Proxy {
-    /// Passes a datagram that came to a source port of a lane from its home server to the lane.
-    ///
-    /// # Errors
-    ///
-    /// `RingFull` if the lane's ring is full, and `Lane` if the lane does not hear the datagram.
-    pub fn hear(
-        &self,
-        rt: &impl Wait,
-        alloc: Global,
-        lane: u16,
-        moment: Moment,
-        port: u16,
-        datagram: &[u8],
-    ) -> Result<Told, DeskFault>
-        requires { lane < self.now }
-        ensures { HearsLawfully lane moment port datagram.now result }
-    {
-        let Ok(mut desk) = own(self.lock(rt, lane), lane) else {
-            return Err(DeskFault::Lane(HearFault::Unknown));
-        };
-        let told = desk.hear(alloc, moment, port, datagram);
-        desk.keep_law();
-        told
     }
 }
 

@@ -1,6 +1,6 @@
 //! The calls of a desk's lane. None of them adds to the ring; [`Desk::hear`], in a file of its own, does.
 
-ghost use Rattle.std.specs.Prelude.{◌≡◌, ◌↔◌, IsTrue, IsSome};
+ghost use Rattle.std.specs.Prelude.{◌≡◌, ◌↔◌, IsTrue, IsSome, IfSome};
 ghost use Rattle.rad_lane.specs.Accepts.{Accepts, IsTaken};
 ghost use Rattle.rad_lane.specs.Datagrams.{Datagrams};
 ghost use Rattle.rad_lane.specs.Steps.{Steps, AllotsAnother};
@@ -10,14 +10,16 @@ ghost use Rattle.rad_lane.specs.Lawful.{IsLawful};
 ghost use Rattle.locked_lanes.specs.Outlet.{IsOutlet};
 ghost use Rattle.locked_lanes.specs.Lawful.{AddUp};
 ghost use Rattle.locked_lanes.specs.Desk.{book, given, SameOutlet};
-ghost use Rattle.locked_lanes.specs.Departures.{Departs, Returns, AcceptsLawfully};
-ghost use Rattle.locked_lanes.specs.Found.{StepsLawfully};
+ghost use Rattle.locked_lanes.specs.Departures.{Departs, Returns, StepsHolding, AcceptsLawfully, UnlessWrongLane};
+ghost use Rattle.locked_lanes.specs.Found.{LeadsElsewhere, IfWrongLane, StepsLawfully, HearsFor, HearsLawfully, DrainsFor, DrainsLawfully};
 ghost use Rattle.rad_lane.specs.Setup.{IsOf};
 
 use crate::desk::Desk;
 use crate::for_proof::step_lawfully;
+use crate::hearing::{DeskFault, Told};
+use crate::proxy::Stepped;
 use rad_auth::Secret;
-use rad_lane::{Action, Counts, Refusal, Stamp, Taken};
+use rad_lane::{Action, Counts, HearFault, Refusal, Stamp, Taken};
 use rad_packet::Datagram;
 use rad_realms::Checked;
 use rad_tables::Moment;
@@ -63,6 +65,29 @@ impl Desk {
         taken
     }
 
+    /// Passes a request to the lane, if it leads to this lane.
+    ///
+    /// # Errors
+    ///
+    /// `WrongLane` if it does not; otherwise the reason for which the lane refuses it. The datagram is unchanged.
+    pub(crate) fn accept_if_taken(
+        &mut self,
+        alloc: Global,
+        request: &Checked<'_>,
+        moment: Moment,
+        datagram: &mut Datagram,
+    ) -> Result<Taken, Refusal>
+        ensures wrong { IfWrongLane result (LeadsElsewhere request.now) }
+        ensures returns { Returns result (record { before = datagram.old; after = datagram.new }) }
+        ensures accepts { UnlessWrongLane result (AcceptsLawfully request.now moment result (record { before = datagram.old; after = datagram.new })) }
+    {
+        self.keep_law();
+        if !self.takes(request) {
+            return Err(Refusal::WrongLane);
+        }
+        self.accept(alloc, request, moment, datagram)
+    }
+
     /// Does the lane's next step at this moment. `random` is the Authenticator of a probe.
     pub fn step(&mut self, moment: Moment, random: [u8; 16], datagram: &mut Datagram) -> Action
         ensures steps { Steps (book self.old) moment random result (record { before = datagram.old; after = datagram.new }) (book self.new) }
@@ -75,6 +100,54 @@ impl Desk {
         step_lawfully(&mut self.lane, moment, random, datagram)
     }
 
+    /// Does the lane's next step like [`Desk::step`], if the lane has this number and its home server this secret, and
+    /// otherwise does nothing. It returns the action with the number of requests that the book then holds.
+    pub(crate) fn step_for(
+        &mut self,
+        number: u16,
+        secret: &Secret,
+        moment: Moment,
+        random: [u8; 16],
+        datagram: &mut Datagram,
+    ) -> Option<Stepped>
+        ensures { IfSome result (λ stepped. StepsHolding number secret.now moment random stepped.action stepped.held (record { before = datagram.old; after = datagram.new })) }
+    {
+        if !self.is_of(number, secret) {
+            return None;
+        }
+        let action = self.step(moment, random, datagram);
+        let counts = self.counts();
+        Some(Stepped {
+            action,
+            held: counts.accepted - counts.opening,
+        })
+    }
+
+    /// Passes a datagram to the lane like [`Desk::hear`], if the lane has this number.
+    ///
+    /// # Errors
+    ///
+    /// `Lane` with `Unknown`, before all else, if it has another number. Otherwise as [`Desk::hear`].
+    pub(crate) fn hear_for(
+        &mut self,
+        alloc: Global,
+        number: u16,
+        moment: Moment,
+        port: u16,
+        datagram: &[u8],
+    ) -> Result<Told, DeskFault>
+        ensures hears { HearsFor number self.old moment port datagram.now result self.new }
+        ensures lawful { HearsLawfully number moment port datagram.now result }
+    {
+        self.keep_law();
+        if !self.has_number(number) {
+            return Err(DeskFault::Lane(HearFault::Unknown));
+        }
+        let told = self.hear(alloc, moment, port, datagram);
+        self.keep_law();
+        told
+    }
+
     /// Drains the lane: it accepts no new request from now on. Returns how many requests the lane had accepted in all
     /// when it was drained. A second call changes nothing.
     pub fn drain(&mut self) -> u64
@@ -84,6 +157,22 @@ impl Desk {
         self.lane.drain()
     }
 
+    /// Drains the lane like [`Desk::drain`], if it has this number, and otherwise does nothing and returns 0.
+    pub(crate) fn drain_for(&mut self, number: u16) -> u64
+        ensures drains { DrainsFor number (book self.old) result (book self.new) }
+        ensures outlet { SameOutlet self.old self.new }
+        ensures lawful { DrainsLawfully number result }
+    {
+        self.keep_law();
+        if !self.has_number(number) {
+            return 0;
+        }
+        let count = self.drain();
+        self.keep_law();
+        count
+    }
+
+    /// Returns whether the lane has this number.
     pub(crate) fn has_number(&self, number: u16) -> bool
         ensures { IsTrue result ↔ (book self.now).setup.lane ≡ number }
     {

@@ -3,10 +3,10 @@
 ghost use Rattle.std.specs.Prelude.{◌≡◌, ◌<◌, take, option_map, option_copied};
 ghost use Rattle.locked_lanes.specs.Desk.{book};
 ghost use Rattle.locked_lanes.specs.Origin.{origin_of, outstanding_under};
-ghost use Rattle.locked_lanes.specs.Found.{TellsOriginLawfully};
+ghost use Rattle.locked_lanes.specs.Found.{TellsOriginFor, TellsOriginLawfully};
 
 use crate::desk::Desk;
-use crate::proxy::{Proxy, own};
+use crate::proxy::Proxy;
 use crate::spent::Session;
 use rad_lane::Record;
 use rad_realms::Endpoint;
@@ -60,6 +60,18 @@ impl Desk {
         let sending = self.lane.sending_under(slot)?;
         Some(Origin::of(sending.request()))
     }
+
+    /// Returns the same, if the lane has this number.
+    fn origin_for(&self, number: u16, slot: Slot) -> Option<Origin>
+        ensures tells { TellsOriginFor number (book self.now) slot result }
+        ensures lawful { TellsOriginLawfully number slot result }
+    {
+        self.keep_law();
+        if !self.has_number(number) {
+            return None;
+        }
+        self.origin(slot)
+    }
 }
 
 impl Proxy {
@@ -68,9 +80,6 @@ impl Proxy {
         requires { lane < self.now }
         ensures { TellsOriginLawfully lane slot result }
     {
-        let Ok(desk) = own(self.lock(rt, lane), lane) else {
-            return None;
-        };
-        desk.origin(slot)
+        self.lock(rt, lane).origin_for(lane, slot)
     }
 }

@@ -1,16 +1,17 @@
 //! The lanes behind their locks.
 
-ghost use Rattle.std.specs.Prelude.{◌≡◌, ◌<◌, ◌≤◌, ◌⊎◌, length, map as each, All, IfOk, IfSome, MatchResult, [], Err};
+ghost use Rattle.std.specs.Prelude.{◌≡◌, ◌<◌, ◌≤◌, ◌⊎◌, length, map as each, All, IfOk, IfSome, [], Err};
 ghost use Rattle.std.specs.List.{range_with_len};
 ghost use Rattle.rad_lane.specs.declared.accepting.Refusal.TheVariants.{WrongLane};
 ghost use Rattle.rad_lane.specs.Datagrams.{Datagrams};
 ghost use Rattle.locked_lanes.specs.Inlet.{lane_of, taken};
 ghost use Rattle.locked_lanes.specs.Departures.{Departs, Returns, StepsHolding, AcceptsLawfully, UnlessWrongLane};
-ghost use Rattle.locked_lanes.specs.Found.{LeadsElsewhere, IfWrongLane, StepsLawfully, IsOwn, IsOther, DrainsLawfully};
+ghost use Rattle.locked_lanes.specs.Found.{LeadsElsewhere, IfWrongLane, StepsLawfully, HearsLawfully, DrainsLawfully};
 ghost use Rattle.locked_lanes.specs.Lawful.{AreLawful, AddUp};
 
-use crate::desk::{Desk, OpenFault};
+use crate::desk::Desk;
 use crate::inlet::Inlet;
+use crate::{DeskFault, OpenFault, Told};
 use rad_auth::Secret;
 use rad_lane::{Action, Counts, Refusal, Setup, Taken};
 use rad_packet::Datagram;
@@ -112,12 +113,8 @@ impl Proxy {
         if request.lane() >= self.lanes() {
             return Err(Refusal::WrongLane);
         }
-        let mut desk = self.lock(rt, request.lane());
-        desk.keep_law();
-        if !desk.takes(request) {
-            return Err(Refusal::WrongLane);
-        }
-        desk.accept(alloc, request, moment, datagram)
+        self.lock(rt, request.lane())
+            .accept_if_taken(alloc, request, moment, datagram)
     }
 
     /// Does a lane's next step at this moment. `random` is the Authenticator of a probe.
@@ -151,16 +148,29 @@ impl Proxy {
         requires { lane < self.now }
         ensures { IfSome result (λ stepped. StepsHolding lane secret.now moment random stepped.action stepped.held (record { before = datagram.old; after = datagram.new })) }
     {
-        let mut desk = self.lock(rt, lane);
-        if !desk.is_of(lane, secret) {
-            return None;
-        }
-        let action = desk.step(moment, random, datagram);
-        let counts = desk.counts();
-        Some(Stepped {
-            action,
-            held: counts.accepted - counts.opening,
-        })
+        self.lock(rt, lane)
+            .step_for(lane, secret, moment, random, datagram)
+    }
+
+    /// Passes a datagram that came to a source port of a lane from its home server to the lane.
+    ///
+    /// # Errors
+    ///
+    /// `RingFull` if the lane's ring is full, and `Lane` if the lane does not hear the datagram.
+    pub fn hear(
+        &self,
+        rt: &impl Wait,
+        alloc: Global,
+        lane: u16,
+        moment: Moment,
+        port: u16,
+        datagram: &[u8],
+    ) -> Result<Told, DeskFault>
+        requires { lane < self.now }
+        ensures { HearsLawfully lane moment port datagram.now result }
+    {
+        self.lock(rt, lane)
+            .hear_for(alloc, lane, moment, port, datagram)
     }
 
     /// Drains a lane: it accepts no new request from now on. Returns how many requests it had accepted in all when it
@@ -169,12 +179,7 @@ impl Proxy {
         requires { lane < self.now }
         ensures { DrainsLawfully lane result }
     {
-        let Ok(mut desk) = own(self.lock(rt, lane), lane) else {
-            return 0;
-        };
-        let count = desk.drain();
-        desk.keep_law();
-        count
+        self.lock(rt, lane).drain_for(lane)
     }
 
     /// Returns the counts of a lane.
@@ -198,21 +203,5 @@ impl Proxy {
             spin_loop();
         }
         desk.lock(rt)
-    }
-}
-
-/// Returns the desk if its lane has this number, and otherwise, as an error, the desk as it is.
-pub(crate) fn own<'b>(
-    desk: MutexGuard<'b, Desk>,
-    lane: u16,
-) -> Result<MutexGuard<'b, Desk>, MutexGuard<'b, Desk>>
-    ensures same { MatchResult result (λ found. found.value ≡ desk.entry.value) (λ found. found.value ≡ desk.entry.value) }
-    ensures found { MatchResult result (λ found. IsOwn lane found.value) (λ found. IsOther lane found.value) }
-{
-    desk.keep_law();
-    if desk.has_number(lane) {
-        Ok(desk)
-    } else {
-        Err(desk)
     }
 }

@@ -4,10 +4,10 @@ ghost use Rattle.std.specs.Prelude.{◌≡◌, ◌<◌, ◌≤◌, ◌++◌, len
 ghost use Rattle.rad_lane.specs.Dues.{NoneSpent};
 ghost use Rattle.locked_lanes.specs.Desk.{book};
 ghost use Rattle.locked_lanes.specs.Spent.{TellsSpent, spent_of};
-ghost use Rattle.locked_lanes.specs.Found.{TellsSpentLawfully};
+ghost use Rattle.locked_lanes.specs.Found.{TellsSpentFor, TellsSpentLawfully};
 
 use crate::desk::Desk;
-use crate::proxy::{Proxy, own};
+use crate::proxy::Proxy;
 use rad_lane::Sending;
 use rad_realms::Endpoint;
 use rad_tables::Moment;
@@ -108,6 +108,18 @@ impl Desk {
         let sending = self.lane.spent()?;
         Some(Spent::of(sending, moment))
     }
+
+    /// Returns the same, if the lane has this number.
+    fn spent_for(&self, number: u16, moment: Moment) -> Option<Spent>
+        ensures tells { TellsSpentFor number (book self.now) moment result }
+        ensures lawful { TellsSpentLawfully number moment result }
+    {
+        self.keep_law();
+        if !self.has_number(number) {
+            return None;
+        }
+        self.spent(moment)
+    }
 }
 
 impl Proxy {
@@ -117,9 +129,6 @@ impl Proxy {
         requires { lane < self.now }
         ensures { TellsSpentLawfully lane moment result }
     {
-        let Ok(desk) = own(self.lock(rt, lane), lane) else {
-            return None;
-        };
-        desk.spent(moment)
+        self.lock(rt, lane).spent_for(lane, moment)
     }
 }
