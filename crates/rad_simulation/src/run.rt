@@ -28,47 +28,29 @@ pub struct Outcome {
     pub broken: Option<Rule>,
 }
 
-/// The proxy of a run, with its configuration and the inlets of its front.
-#[derive(Drop)]
+/// The proxy of a run, with its configuration.
+#[derive(Clone, Copy)]
 pub struct Served<'a> {
     config: &'a Config,
     proxy: &'a Proxy,
-    inlets: &'a mut [Inlet],
 }
 
 /// Runs the worker of a lane for `turns` turns. Returns `None` if there is no such lane.
 fn work_lane(
     rt: &impl Wait,
     alloc: Global,
-    served: &Served<'_>,
+    served: Served<'_>,
     lane: u16,
     wire: &mut TraceWire<'_>,
     gate: &TraceGate<'_>,
     turns: u64,
 ) -> Option<Tally> {
-    let proxy = served.proxy;
-    let home = served.config.homes().get(usize::from(lane))?;
+    let Served { config, proxy } = served;
+    let home = config.homes().get(usize::from(lane))?;
     if lane >= proxy.lanes() {
         return None;
     }
     Some(lane_worker(rt, alloc, proxy, lane, home, wire, gate, turns))
-}
-
-/// Runs the worker of the front for `turns` turns.
-fn work_front(
-    rt: &impl Wait,
-    alloc: Global,
-    served: &mut Served<'_>,
-    wire: &mut TraceWire<'_>,
-    gate: &TraceGate<'_>,
-    turns: u64,
-) -> Tally {
-    let Served {
-        config,
-        proxy,
-        inlets,
-    } = served;
-    front_worker(rt, alloc, proxy, config, inlets, wire, gate, turns)
 }
 
 /// A run in progress, without its proxy.
@@ -176,32 +158,36 @@ impl Run {
         inlets: Vec<Inlet>,
     ) -> Result<(), Rule> {
         let mut inlets = inlets;
-        let mut served = Served {
+        let served = Served {
             config,
             proxy: &proxy,
-            inlets: inlets.as_mut_slice(),
         };
-        let went = self.go(rt, &mut served);
+        let went = self.go(rt, served, inlets.as_mut_slice());
         let closed = close(self.alloc, proxy, inlets, self.books.books.as_slice());
         went?;
         closed
     }
 
-    fn go(&mut self, rt: &impl Wait, served: &mut Served<'_>) -> Result<(), Rule> {
+    fn go(&mut self, rt: &impl Wait, served: Served<'_>, inlets: &mut [Inlet]) -> Result<(), Rule> {
         for _ in 0..self.setting.calls {
-            self.step(rt, served)?;
+            self.step(rt, served, inlets)?;
         }
-        self.settle(rt, served)
+        self.settle(rt, served, inlets)
     }
 
     /// Has something happen outside the workers, by chance, and then calls one worker.
-    fn step(&mut self, rt: &impl Wait, served: &mut Served<'_>) -> Result<(), Rule> {
+    fn step(
+        &mut self,
+        rt: &impl Wait,
+        served: Served<'_>,
+        inlets: &mut [Inlet],
+    ) -> Result<(), Rule> {
         self.happen()?;
         if self.chance.strikes(self.setting.drains) {
             self.drain(rt, served.proxy)?;
         }
         let plan = self.plan();
-        self.play(rt, served, plan)
+        self.play(rt, served, inlets, plan)
     }
 
     /// Has a NAS send something, and a home server die or come back, by chance.
@@ -237,16 +223,23 @@ impl Run {
     pub fn play(
         &mut self,
         rt: &impl Wait,
-        served: &mut Served<'_>,
+        served: Served<'_>,
+        inlets: &mut [Inlet],
         plan: Plan,
     ) -> Result<(), Rule> {
-        self.call(rt, served, plan)?;
+        self.call(rt, served, inlets, plan)?;
         compare_counts(rt, served.proxy, self.books.books.as_slice())
     }
 
-    fn call(&mut self, rt: &impl Wait, served: &mut Served<'_>, plan: Plan) -> Result<(), Rule> {
+    fn call(
+        &mut self,
+        rt: &impl Wait,
+        served: Served<'_>,
+        inlets: &mut [Inlet],
+        plan: Plan,
+    ) -> Result<(), Rule> {
         let (lane, turns) = (plan.lane, plan.turns);
-        let (tally, arrivals) = self.work(rt, served, plan);
+        let (tally, arrivals) = self.work(rt, served, inlets, plan);
         self.network.give_back(arrivals, self.clock, lane)?;
         match (self.trace.take(), tally) {
             (Some(events), Some(tally)) => self.follow(lane, turns, events.as_slice(), tally),
@@ -270,7 +263,8 @@ impl Run {
     fn work(
         &mut self,
         rt: &impl Wait,
-        served: &mut Served<'_>,
+        served: Served<'_>,
+        inlets: &mut [Inlet],
         plan: Plan,
     ) -> (Option<Tally>, Vec<Arrival>) {
         let Plan {
@@ -296,7 +290,10 @@ impl Run {
         let alloc = self.alloc;
         let tally = match lane {
             Some(lane) => work_lane(rt, alloc, served, lane, &mut wire, &gate, turns),
-            None => Some(work_front(rt, alloc, served, &mut wire, &gate, turns)),
+            None => {
+                let Served { config, proxy } = served;
+                Some(front_worker(rt, alloc, proxy, config, inlets, &mut wire, &gate, turns))
+            }
         };
         self.clock = wire.clock;
         let TraceWire { arrivals, .. } = wire;

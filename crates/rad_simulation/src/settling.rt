@@ -8,6 +8,7 @@ use crate::planning::Plan;
 use crate::rules::Rule;
 use crate::run::{Run, Served};
 use crate::trace::Arrival;
+use rad_desk::Inlet;
 use rad_packet::read;
 use std::alloc::Global;
 use std::sync::Wait;
@@ -84,11 +85,16 @@ impl Book {
 
 impl Run {
     /// Has each lane be served.
-    pub fn settle(&mut self, rt: &impl Wait, served: &mut Served<'_>) -> Result<(), Rule> {
+    pub fn settle(
+        &mut self,
+        rt: &impl Wait,
+        served: Served<'_>,
+        inlets: &mut [Inlet],
+    ) -> Result<(), Rule> {
         self.setting.faults = 0;
         for place in 0..self.books.books.len() {
-            self.take_all(rt, served, place)?;
-            self.settle_lane(rt, served, place)?;
+            self.take_all(rt, served, inlets, place)?;
+            self.settle_lane(rt, served, inlets, place)?;
         }
         Ok(())
     }
@@ -97,11 +103,12 @@ impl Run {
     fn take_all(
         &mut self,
         rt: &impl Wait,
-        served: &mut Served<'_>,
+        served: Served<'_>,
+        inlets: &mut [Inlet],
         place: usize,
     ) -> Result<(), Rule> {
         for _ in 0..self.book(place)?.untaken() {
-            self.turn(rt, served, None, Came::Nothing)?;
+            self.turn(rt, served, inlets, None, Came::Nothing)?;
         }
         Ok(())
     }
@@ -111,36 +118,43 @@ impl Run {
     fn settle_lane(
         &mut self,
         rt: &impl Wait,
-        served: &mut Served<'_>,
+        served: Served<'_>,
+        inlets: &mut [Inlet],
         place: usize,
     ) -> Result<(), Rule> {
         if !self.book(place)?.can_go_on() {
             if let Some(down) = self.book(place)?.down {
                 self.clock = self.clock.max(down.until);
             }
-            self.lane_turns(rt, served, place, Came::Nothing)?;
+            self.lane_turns(rt, served, inlets, place, Came::Nothing)?;
             Rule::COMES_UP.unless(self.book(place)?.can_go_on())?;
         }
         for _ in 0..self.book(place)?.most_rounds() {
-            self.round(rt, served, place)?;
+            self.round(rt, served, inlets, place)?;
         }
         Rule::SERVES.unless(self.book(place)?.is_served())
     }
 
     /// Plays a round: turns without a datagram until there is nothing to do, and one more; and then a turn for each right
     /// reply. The front takes each response.
-    fn round(&mut self, rt: &impl Wait, served: &mut Served<'_>, place: usize) -> Result<(), Rule> {
+    fn round(
+        &mut self,
+        rt: &impl Wait,
+        served: Served<'_>,
+        inlets: &mut [Inlet],
+        place: usize,
+    ) -> Result<(), Rule> {
         for _ in 0..self.book(place)?.most_steps() {
             if !self.book(place)?.is_settled(self.clock) {
-                self.lane_turns(rt, served, place, Came::Nothing)?;
+                self.lane_turns(rt, served, inlets, place, Came::Nothing)?;
             }
         }
         Rule::SETTLES.unless(self.book(place)?.is_settled(self.clock))?;
-        self.lane_turns(rt, served, place, Came::Nothing)?;
+        self.lane_turns(rt, served, inlets, place, Came::Nothing)?;
         let replies = self.book(place)?.replies(self.alloc)?;
         for reply in replies {
-            self.lane_turns(rt, served, place, Came::Datagram(reply))?;
-            self.turn(rt, served, None, Came::Nothing)?;
+            self.lane_turns(rt, served, inlets, place, Came::Datagram(reply))?;
+            self.turn(rt, served, inlets, None, Came::Nothing)?;
         }
         Ok(())
     }
@@ -156,18 +170,20 @@ impl Run {
     fn lane_turns(
         &mut self,
         rt: &impl Wait,
-        served: &mut Served<'_>,
+        served: Served<'_>,
+        inlets: &mut [Inlet],
         place: usize,
         came: Came,
     ) -> Result<(), Rule> {
-        self.turn(rt, served, Some((place & 0xffff) as u16), came)
+        self.turn(rt, served, inlets, Some((place & 0xffff) as u16), came)
     }
 
     /// Calls a worker for one turn, at the same moment, in which this comes.
     fn turn(
         &mut self,
         rt: &impl Wait,
-        served: &mut Served<'_>,
+        served: Served<'_>,
+        inlets: &mut [Inlet],
         lane: Option<u16>,
         came: Came,
     ) -> Result<(), Rule> {
@@ -180,6 +196,6 @@ impl Run {
             calls: None,
             lag: 0,
         };
-        self.play(rt, served, plan)
+        self.play(rt, served, inlets, plan)
     }
 }
