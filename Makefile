@@ -113,12 +113,12 @@ soak:
 	$(TESTS).ledger.folders_and_writes $(PROGRAM) --long || status=1; \
 	exit $$status
 
-# Tries the recipes of examples/cluster/ and the container of examples/container/ with machines in namespaces, as root: the tests that
-# the gate runs, and then all events in turn, of which each recipe prints what they cost. It takes some twelve minutes.
-#: cluster     tries the recipes of examples/cluster/ with machines in namespaces, as root
+# Tries the recipes of examples/cluster/ and examples/failover/ and the container of examples/container/ with machines in namespaces, as
+# root: short tests, and then all events in turn, of which each recipe prints what they cost. It takes some fourteen minutes.
+#: cluster     tries the recipes of examples/cluster/ and examples/failover/ with machines in namespaces, as root
 cluster:
 	@status=0; \
-	for recipe in keepalived nft ecmp container; do \
+	for recipe in keepalived nft ecmp failover container; do \
 		$(TESTS).cluster.$$recipe $(PROGRAM) || status=1; \
 		$(TESTS).cluster.$$recipe $(PROGRAM) --long || status=1; \
 	done; \

@@ -185,7 +185,8 @@ def words_are_told_apart(room):
         hope(words, (done.returncode, done.stdout, done.stderr), (0, "rad_proxyctl 0.1.0\n", ""))
     wrong = ["", "stat", "-x state", "-d", "state state", "state -d x", "metrics a b", "http x", "restart now", "restart --wait",
              "restart --wait=-1", "restart --wait 1s", "restart --wait 08", "restart --timeout 1", "state --force", "-s x probe"]
-    wrong_probes = ["probe --force", "probe -s", "probe --timeout 0", "probe --timeout=1e3", "probe x"]
+    wrong_probes = ["probe --force", "probe -s", "probe --timeout 0", "probe --timeout=1e3", "probe x", "probe --home", "probe --home=",
+                    "probe -s x --home y"]
     cases = [(words.split(), 1) for words in wrong] + [(words.split(), 2) for words in wrong_probes]
     for words, status in [*cases, (["-i", "", "state"], 1), (["metrics", ""], 1)]:
         done = room.ask(*words)
@@ -304,6 +305,21 @@ def probe_sends_a_status_server(room):
     hope("the first is lost", (status, said, len(came), len(set(came))), (0, "answer from PLACE in TIME\n", 2, 1))
     status, said, came = probed(room, lambda *_: [])
     hope("silence", (status, said), (1, "rad_proxyctl: no answer from PLACE in 0.7 seconds\n"))
+
+
+def probe_of_a_home_server(room):
+    """With --home the home server of that name is asked, under its own secret; one that is not in the configuration ends it with 2."""
+    seen, right = [], lambda octets, _: [answer(octets, octets[1], b"", HOME_SECRET)]
+    with Status(right) as home:
+        other = room.room / "homes.toml"
+        table = f'[[home]]\nname = "two"\naddress = "{home.place}"\nsecret = "{HOME_SECRET.decode()}"\n'
+        other.write_text(room.file.read_text() + table)
+        for words, status in ((["--home", "two"], 0), (["--home=two"], 0), (["--home", "three"], 2)):
+            done = room.ask("probe", "-c", other, "--timeout", "1", *words)
+            seen.append(done.stderr.replace(str(other), "FILE"))
+            hope(" ".join(words), (done.returncode, home.place in done.stdout), (status, status == 0))
+        hope("what is told", seen, ["", "", "rad_proxyctl: FILE has no [[home]] three\n"])
+        hope("what came", [is_right_status(read(octets), HOME_SECRET) for octets in home.came], [True, True])
 
 
 def probe_takes_no_other_answer(room):
@@ -629,7 +645,7 @@ def bash_completes_the_words(room):
         "rad_proxyctl -i t": "two", "rad_proxyctl -i two re": "restart", "rad_proxyctl -d u": "usr", "rad_proxyctl -d wa": "",
         "rad_proxyctl -d usr/s": "usr/sbin usr/share", "rad_proxyctl metrics wa": "wayward.prom", "rad_proxyctl metrics st": "",
         "rad_proxyctl metrics start ": "", "rad_proxyctl metrics e": "etc",
-        "rad_proxyctl state ": "", "rad_proxyctl probe -": "-s -c --timeout --help", "rad_proxyctl probe -c wa": "way.toml",
+        "rad_proxyctl state ": "", "rad_proxyctl probe -": "-s --home -c --timeout --help", "rad_proxyctl probe -c wa": "way.toml",
         "rad_proxyctl probe -s ": "", "rad_proxyctl restart --f": "--force", "rad_proxyctl restart --wait ": "",
         "rad_proxyctl restart --force --": "--wait --out --help", "rad_proxyctl restart -c wa": "way.toml",
         "rad_proxyctl trace --user bob --user": "--user", "rad_proxyctl trace --user ": "",
@@ -683,7 +699,7 @@ def check_prints_what_is_wrong_and_doubtful(room):
 
 TESTS = [
     bash_completes_the_words, check_prints_what_is_wrong_and_doubtful,
-    words_are_told_apart, relative_paths_hold, probe_sends_a_status_server, three_datagrams_come_soon, strangers_do_not_fail_a_check,
+    words_are_told_apart, relative_paths_hold, probe_sends_a_status_server, probe_of_a_home_server, three_datagrams_come_soon, strangers_do_not_fail_a_check,
     probe_takes_no_other_answer, probe_says_what_is_wrong_here,
     probe_of_a_proxy, a_restart_loses_nothing, waits_and_says_what_is_left, restarts_when_the_time_is_over,
     refuses_while_a_home_server_is_down, refuses_where_the_rate_is_too_low, a_wrong_configuration_drains_nothing,

@@ -38,7 +38,7 @@ def http(call):
 def probe(call):
     from .probe import probe as send
 
-    send(call.config, call.server, float(call.seconds or bounds.PROBE_SECONDS))
+    send(call.config, call.server, call.home, float(call.seconds or bounds.PROBE_SECONDS))
 
 
 def restart(call):

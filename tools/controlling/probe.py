@@ -1,6 +1,6 @@
-"""Sends a proxy a Status-Server (RFC 5997) and tells how long it took to answer.
+"""Sends a proxy, or a home server, a Status-Server (RFC 5997) and tells how long it took to answer.
 
-The secret is that of the [[client]] with the address that this machine sends from. Without an address it asks `listen` of the
+A proxy's secret is that of the [[client]] with the address that this machine sends from. Without an address it asks `listen` of the
 configuration.
 """
 import errno
@@ -50,6 +50,20 @@ def secret_of(tables, path, address):
         if client["address"] == address:
             return client["secret"].encode()
     raise Fault(f"{path} has no [[client]] {address}, the address that this machine sends from", bounds.MISCONFIGURED)
+
+
+def home_of(tables, path, name):
+    """The address, the port and the secret of the home server of a name."""
+    for home in tables["home"]:
+        if home["name"] == name:
+            return *place_of(home["address"], f"{path}: address"), home["secret"].encode()
+    raise Fault(f"{path} has no [[home]] {name}", bounds.MISCONFIGURED)
+
+
+def proxy_of(tables, path, server):
+    """The address and port of the proxy that is asked."""
+    address, port = place_of(server, server) if server else place_of(tables["listen"], f"{path}: listen")
+    return "127.0.0.1" if not server and address == "0.0.0.0" else address, port
 
 
 def status_server(identifier, authenticator, secret):
@@ -115,14 +129,15 @@ def connected(address, port):
     raise Fault(f"cannot send to {address}:{port}: others hold the ports of this machine", bounds.FAILED)
 
 
-def probe(path, server, seconds):
-    """Asks, and prints how long it took."""
+def probe(path, server, home, seconds):
+    """Asks the home server of this name, or else a proxy, and prints how long it took."""
     table = tables_of(path)
-    address, port = place_of(server, server) if server else place_of(table["listen"], f"{path}: listen")
-    if not server and address == "0.0.0.0":
-        address = "127.0.0.1"
+    if home:
+        address, port, secret = home_of(table, path, home)
+    else:
+        (address, port), secret = proxy_of(table, path, server), None
     with connected(address, port) as made:
-        secret = secret_of(table, path, made.getsockname()[0])
+        secret = secret or secret_of(table, path, made.getsockname()[0])
         authenticator = os.urandom(17)
         asked = status_server(authenticator[0], authenticator[1:], secret)
         try:

@@ -10,7 +10,7 @@ from .paths import absolute, configuration_of
 
 USAGE = """\
 usage: rad_proxyctl [-i NAME | -d DIR] state | drain | top | metrics [FILE] | http
-       rad_proxyctl [-i NAME] probe [-s ADDRESS:PORT] [-c CONFIG] [--timeout SECONDS]
+       rad_proxyctl [-i NAME] probe [-s ADDRESS:PORT | --home NAME] [-c CONFIG] [--timeout SECONDS]
        rad_proxyctl [-i NAME | -d DIR] restart [-c CONFIG] [--wait SECONDS] [--out SECONDS] [--force]
        rad_proxyctl [-i NAME] check [--strict] [FILE]
        rad_proxyctl [-i NAME | -d DIR] trace [--user NAME | --session ID | --client ADDRESS] [--seconds SECONDS]
@@ -32,6 +32,7 @@ Asks a rad_proxy that runs as a service.
   -i NAME         the service rad_proxy@NAME, in place of rad_proxy
   -d DIR          the service whose fifos are in DIR
   -s ADDRESS:PORT the proxy that is probed, in place of `listen' of the configuration
+  --home NAME     the home server of the configuration that is probed, in place of a proxy
   -c CONFIG       the configuration, in place of {config}
   --timeout S     how long an answer is waited for, in seconds; default {probe}
   --wait S        how long a restart waits for the answers after the drain; default {drain}
@@ -44,7 +45,7 @@ rad_proxyctl(8) has the rest.
 """
 COMMANDS = ("state", "drain", "top", "metrics", "http", "probe", "restart", "check", "trace")
 # The options of each command that have a value, and those that have none. Some take their value behind `=` too.
-VALUES = {"": ("-i", "-d"), "probe": ("-s", "-c", "--timeout"), "restart": ("-c", "--wait", "--out"),
+VALUES = {"": ("-i", "-d"), "probe": ("-s", "--home", "-c", "--timeout"), "restart": ("-c", "--wait", "--out"),
           "trace": ("--user", "--session", "--client", "--seconds")}
 FLAGS = {"restart": ("--force",), "check": ("--strict",)}
 DIGITS = frozenset("0123456789")
@@ -59,7 +60,7 @@ class Call:
 
     def __init__(self):
         given = os.environ.get("RUNTIME_DIRECTORY")
-        self.word = self.file = self.server = self.seconds = ""
+        self.word = self.file = self.server = self.home = self.seconds = ""
         self.folder, self.unit = absolute(given or f"{places.RUN}/rad_proxy"), "" if given else "rad_proxy"
         self.config, self.wanted = configuration_of(""), []
         self.wait, self.out = bounds.DRAIN_SECONDS, 0
@@ -94,6 +95,8 @@ def take_value(call, option, value):
         call.folder, call.unit = absolute(value), ""
     elif option == "-s":
         call.server = value
+    elif option == "--home":
+        call.home = value
     elif option == "-c":
         call.config = absolute(value)
     elif option == "--timeout":
@@ -155,7 +158,7 @@ def read_words(call, words):
             take_flag(call, word)
         else:
             take_other(call, word)
-    if not call.word or call.word == "trace" and not call.wanted:
+    if not call.word or call.word == "trace" and not call.wanted or call.server and call.home:
         raise Misused
     return None
 
