@@ -23,7 +23,7 @@ FROM_ONE_LOOK = {
     "RadProxyRecordStuck": "rad_proxy_oldest_outstanding_age_seconds > 75 and time() - rad_proxy_last_answer_time_seconds < 60",
     "RadProxyClockStands": "time() - rad_proxy_report_time_seconds > 60",
 }
-AT_ONCE = ["RadProxyRecordStuck", "RadProxyBookFills", "RadProxyQueueFills", "RadProxyLedgerWaits", "RadProxyLedgerUnsynced"]
+AT_ONCE = ["RadProxyRecordStuck", "RadProxyBookFills", "RadProxyQueueFills", "RadProxyQueueWaits", "RadProxyLedgerWaits", "RadProxyLedgerUnsynced"]
 
 
 def rules():
