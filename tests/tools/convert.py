@@ -16,13 +16,14 @@ import os
 import pathlib
 import random
 import re
+import select
 import shutil
 import subprocess
 import tempfile
 import tomllib
 from multiprocessing.pool import ThreadPool
 
-from tests.lib import LeftOut, environment, free_ports, hope, try_in_folders
+from tests.lib import LeftOut, bound, environment, free_ports, hope, try_in_folders
 from tests.lib.tools import running, table, talking, texts
 from tests.lib.tools.running import want
 from tools.converting import freeradius, patterns, radsecproxy
@@ -315,6 +316,66 @@ def patterns_are_those_of_the_system(program, room):
     hope("patterns of each kind", all(said[kind] > 500 for kind in (patterns.ALL, patterns.NONE, patterns.SOME)) or said, True)
 
 
+# The first match.
+
+NAMES_ASKED, SECONDS_UNTIL_IT_COMES = 70, 0.4
+WHOLE_NAMES = ["example.org", "a.example", "b.a.example", "nordnetz.example", "biz.nordnetz.example", "x.org", "other.net"]
+PATTERNS = ["/@(.+\\.)?nordnetz\\.example$/", "/\\.example$/", "/@.*\\.org$/", "*.example", "/^[^@]+@b\\.a\\.example$/"]
+# Of the realms behind these nothing is known.
+BY_USER = ["/^vip/", "/guest/"]
+USERS = ["bob", "vip1", "a.guest", "x"]
+
+
+def site_of_matches(chance, site):
+    """A text of radsecproxy with realms and patterns in random order, and clients behind blocks."""
+    blocks = [texts.block(f"server {home.name}", "type udp", f"host {home.address}:{home.port}", f"secret {home.secret.decode()}") for home in site.homes]
+    blocks += [texts.block("client 127.0.0.2", "type udp", "secret before"), texts.block("client 127.0.0.0/29", "type udp", "secret block"),
+               texts.block("client 127.0.0.3", "type udp", "secret behind"), texts.block("client 127.0.0.9", "type udp", "secret own")]
+    realms = WHOLE_NAMES[:-1] + PATTERNS
+    chance.shuffle(realms)
+    realms[-2:-2] = BY_USER
+    for name in realms:
+        server = [f"accountingServer {chance.choice(site.homes).name}"] if chance.random() < 0.85 else []
+        blocks.append(texts.block(f"realm {name}", *server))
+    return f"ListenUDP {table.FRONT}:{site.port}\nPidFile none\n" + "".join(blocks)
+
+
+def first_home(site, client, user, homes):
+    """The home server that gets the request of a user, or None."""
+    with bound(client.address) as nas:
+        nas.sendto(talking.asked(7, user.encode(), os.urandom(4).hex().encode(), client.secret), (table.FRONT, site.port))
+        for ready in select.select(list(homes), [], [], SECONDS_UNTIL_IT_COMES)[0]:
+            hope("the user", talking.answered(homes[ready], ready), user)
+            return homes[ready].name
+    return None
+
+
+def the_first_match_is_that_of_radsecproxy(program, room):
+    """Random realms, patterns and blocks of clients: radsecproxy and the program over the result have the same home server and secret for a
+    name, or its realm is told."""
+    want("radsecproxy")
+    chance = random.Random(10)
+    port, *ports = free_ports(4)
+    site = table.Site(port, [], [table.Home(f"h{number}", table.FRONT, it, b"home") for number, it in enumerate(ports)], [])
+    clients = [table.Client("127.0.0.2", b"before"), table.Client("127.0.0.3", b"block"), table.Client("127.0.0.9", b"own")]
+    (room / "it").write_text(site_of_matches(chance, site))
+    asked = [(chance.choice(clients), f"{chance.choice(USERS)}@{chance.choice(WHOLE_NAMES)}") for _ in range(NAMES_ASKED)]
+    status, _, told = convert("radsecproxy", room / "it", "-o", room / "it.toml")
+    hope("status", status, 3)
+    found = []
+    for words in (["radsecproxy", "-f", "-c", str(room / "it")], [program, "run", room / "it.toml"]):
+        with contextlib.ExitStack() as stack:
+            stack.enter_context(talking.serving(words, site, room))
+            homes = {stack.enter_context(bound(home.address, home.port)): home for home in site.homes}
+            found.append([first_home(site, client, user, homes) for client, user in asked])
+    for (client, user), source, made in zip(asked, *found):
+        realm = user.partition("@")[2]
+        is_told = any(f"realm {realm}: " in line for line in told)
+        if made != source and not (made is None and (is_told or realm not in WHOLE_NAMES[:-1])):
+            raise AssertionError(f"{user} of {client.address}: {source} of radsecproxy, and {made}")
+    hope("names that reach the same", sum(made is not None for made in found[1]) > NAMES_ASKED / 4 or found, True)
+
+
 # What the packages ship.
 
 @functools.cache
@@ -509,6 +570,7 @@ def cases():
     yield from limits()
     yield "patterns are those of the system", patterns_are_those_of_the_system
     yield from sites()
+    yield "the first match is that of radsecproxy", the_first_match_is_that_of_radsecproxy
     yield from packages()
     yield from damages()
 

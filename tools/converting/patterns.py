@@ -65,12 +65,30 @@ def _taken(tokens, tail):
     text = re.compile(b"".join(rb"\Z" if token == b"$" else token for token in tokens), re.IGNORECASE | re.DOTALL)
     if tokens[:1] in ([b"@"], [b"\\@"]) and not (len(tokens) > 1 and tokens[1].startswith(BOUNDS)):
         return ALL if text.match(tail) else NONE
+    if tokens[-1:] == [b"$"] and not fits(last_octets(tokens[:-1]), tail):
+        return NONE
     if b"^" in tokens:
         return SOME
     if text.search(tail):
         return ALL
     crosses = any(token in (b".", b"@", b"\\@") or token.startswith(b"[") and (b"@" in token) != token.startswith(b"[^") for token in tokens)
     return NONE if tokens[-1:] == [b"$"] and b"$" not in tokens[:-1] and not crosses else SOME
+
+
+def last_octets(tokens):
+    """The octets that all of these tokens end in."""
+    made = b""
+    for token in reversed(tokens):
+        if len(token) != 1 + token.startswith(b"\\") or token in (b".", b"^", b"$", b"(", b")", b"*", b"+", b"?"):
+            break
+        made = token[-1:] + made
+    return made
+
+
+def fits(octets, tail):
+    """Whether a text may end in both."""
+    size = min(len(octets), len(tail))
+    return not size or octets[-size:].lower() == tail[-size:].lower()
 
 
 def without_name(tokens):

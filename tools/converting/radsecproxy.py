@@ -343,7 +343,11 @@ class Converter:
         if name is not None and name.lower() in self.ignored:
             self.site.tell(block.place, f"{what}: radsecproxy never comes to it, since {self.ignored[name.lower()]} has this realm")
             return
-        if not servers:
+        first, said = self._first_pattern(name, what, block)
+        if said:
+            self.site.tell(block.place, said)
+            return
+        if not servers and not first:
             self.ignored |= {} if name is None else {name.lower(): block.place}
             if block.value(b"accountingresponse", b"off").lower() == b"on":
                 self.site.tell(block.place, f"{what}: AccountingResponse: rad_proxy answers nothing by itself")
@@ -354,10 +358,6 @@ class Converter:
         if name is None and block.name != b"*":
             self.patterns.append(block)
             self.site.tell(block.place, f"{what}: a pattern; rad_proxy has realms by their whole name alone")
-            return
-        first, said = self._first_pattern(name, what, block)
-        if said:
-            self.site.tell(block.place, said)
             return
         if first:
             servers = first.all(b"accountingserver")

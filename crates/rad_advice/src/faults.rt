@@ -238,7 +238,11 @@ fn may_tell(text: &[u8]) -> bool
 }
 
 /// Returns the place of a fault's key; or of the header of its table, if the key is absent there.
-fn find_place(alloc: Global, text: &str, fault: ConfigFault) -> Result<Option<TextPlace>, AllocError>
+fn find_place(
+    alloc: Global,
+    text: &str,
+    fault: ConfigFault,
+) -> Result<Option<TextPlace>, AllocError>
     ensures { IfOk result (λ found. IfSome found (BeginsAtPlace text.now (name_sought fault))) }
 {
     if let ConfigFault::Missing(spot) = fault {

@@ -7,7 +7,7 @@ use crate::lines::{Sum, SumLine};
 use crate::workers::worker_name;
 use rad_desk::WorkerReport;
 use rad_log::{Level, Log, tell};
-use rad_metrics::{Classified, Counted, Counts, CountedEvent, Reason};
+use rad_metrics::{Classified, Counted, CountedEvent, Counts, Reason};
 use rad_realms::{Config, Dropped, Endpoint};
 use std::alloc::{AllocError, Global};
 use std::sync::atomic::Ordering;
