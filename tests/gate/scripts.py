@@ -115,5 +115,6 @@ SCRIPTS = [
     Script("cluster/keepalived", is_alone=True),
     Script("cluster/nft", is_alone=True),
     Script("cluster/ecmp", is_alone=True),
+    Script("cluster/failover", is_alone=True),
     Script("cluster/container", is_alone=True),
 ]
