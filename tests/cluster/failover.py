@@ -150,6 +150,31 @@ def late_answers_lead_nowhere(failover):
     failover.holds()
 
 
+def what_cannot_be_probed_changes_nothing(failover):
+    """While the configuration has a fault no home server counts as dead."""
+    failover.begin()
+    whole = failover.machine.read("/etc/rad_proxy/rad_proxy.toml")
+    failover.machine.write("/etc/rad_proxy/rad_proxy.toml", "listen = 1\n")
+    time.sleep(7)
+    hope("told", failover.said("is dead"), 0)
+    hope("who has records", failover.stored(), [FIRST])
+    failover.machine.write("/etc/rad_proxy/rad_proxy.toml", whole)
+    failover.holds()
+
+
+def a_stop_sends_all_home(failover):
+    """Where the script is stopped while a home server is away, that one has its records again, also those of ports that are in use."""
+    failover.begin()
+    failover.event("dead", failover.acts(failover.dies, failover.shows("is dead")), 0, FIRST)
+    hope("while it is dead", failover.stored(), [SECOND])
+    failover.answers(FIRST)
+    failover.machine.end("rad_proxy_failover")
+    until("the rules are gone", lambda: failover.machine.tries("nft", "list", "table", "ip", "rad_proxy_failover") != 0, 10)
+    time.sleep(4)
+    hope("behind the stop", failover.stored(), [FIRST])
+    failover.holds()
+
+
 def all_events(failover):
     """Each event in turn."""
     failover.begin(4)
@@ -160,7 +185,7 @@ def all_events(failover):
     print(tally, shown(failover.rows()), sep="\n", flush=True)
 
 
-SHORT = [a_home_server_dies, a_slow_one_is_not_dead, late_answers_lead_nowhere]
+SHORT = [a_home_server_dies, a_slow_one_is_not_dead, late_answers_lead_nowhere, what_cannot_be_probed_changes_nothing, a_stop_sends_all_home]
 RECIPES = {test: Failover for test in (*SHORT, all_events)}
 
 if __name__ == "__main__":

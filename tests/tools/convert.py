@@ -295,7 +295,7 @@ def sites():
 
 EXTENDED, WITHOUT_CASE, WITHOUT_PLACES = 1, 2, 8
 PIECES = [b"@", b"@", b".", b"a", b"B", b"example", b"\\.", b"$", b"$", b"^", b"(", b")", b"|", b"*", b"+", b"?", b"[a-b]", b"[^@]", b"[^@]+", b".*",
-          b".+", b"org", b"{2}", b"bob", b"(a|b)", b"[.@]"]
+          b".+", b"org", b"{2}", b"bob", b"(a|b)", b"[.@]", b"[a-c0-9-]", b"[^a-z0-9.]"]
 REALMS, NAMES = [b"example.org", b"A.example", b"b", b"aa", b"bob.b"], [b"a", b"b", b"bob", b"x.y", b"example.org", b"AB", b"bb", b"b.", b"1"]
 
 

@@ -7,7 +7,7 @@ to have one `@` and something before it.
 import re
 
 ALL, NONE, SOME = "all", "none", "some"
-TOKEN = re.compile(rb"\\[][.()*+?{}|^$@/\\-]|\[\^?[A-Za-z0-9._@%+]+(?:-[A-Za-z0-9])*[A-Za-z0-9._@%+]*-?\]|\{\d{1,3}(?:,\d{0,3})?\}"
+TOKEN = re.compile(rb"\\[][.()*+?{}|^$@/\\-]|\[\^?(?:[A-Za-z0-9._@%+](?:-[A-Za-z0-9])?)+-?\]|\{\d{1,3}(?:,\d{0,3})?\}"
                    rb"|[A-Za-z0-9_@:/%&=~,;!<>\"' -]|[.^$()|*+?]")
 BOUNDS = (b"*", b"+", b"?", b"{")
 BEGINNINGS = (b"(", b"|", b"^")
