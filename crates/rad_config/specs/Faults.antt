@@ -8,13 +8,13 @@ use Rattle.toml.specs.Data.{Members, get_member, as_str}
 use Rattle.rad_config.specs.declared.reading.faults.Part.{Part}
 use Rattle.rad_config.specs.declared.reading.faults.Part.TheVariants as part
 use Rattle.rad_config.specs.declared.reading.faults.Key.{Key}
-use Rattle.rad_config.specs.declared.reading.faults.Key.TheVariants.{DefaultHome, Home, Address, Secret, Name}
+use Rattle.rad_config.specs.declared.reading.faults.Key.TheVariants.{DefaultHome, OtherHome, Home, Address, Secret, Name}
 use Rattle.rad_config.specs.declared.reading.faults.Spot.{Spot}
 use Rattle.rad_config.specs.declared.reading.faults.ConfigFault.{ConfigFault}
 use Rattle.rad_config.specs.declared.reading.faults.ConfigFault.TheVariants.{DoubleName, UnknownHome}
 use Rattle.rad_config.specs.Realm.{or_else}
 use Rattle.rad_config.specs.Spot.{key_name}
-use Rattle.rad_config.specs.Walk.{spot, address_at, endpoint_at, secret_at, text_at, home_name_at, realm_name_at, limits_at, array_of, listen_in, default_home_in, linger_in}
+use Rattle.rad_config.specs.Walk.{spot, address_at, endpoint_at, secret_at, text_at, home_name_at, realm_name_at, limits_at, array_of, listen_in, home_name_in, linger_in}
 
 -- The text at a key, if there is one.
 abbrev pub text_of : Key → Members → Option (List ℕ)
@@ -104,16 +104,20 @@ part_faults p doc = array_faults p (home_tables doc) (array_of p doc)
 unfoldable pub top_faults : Members → List ConfigFault
 top_faults doc =
     option_to_list (result_err (listen_in doc))
-    ++ (option_to_list (result_err (default_home_in doc)) ++ option_to_list (result_err (linger_in doc)))
+    ++ (option_to_list (result_err (home_name_in DefaultHome doc))
+    ++ (option_to_list (result_err (home_name_in OtherHome doc))
+    ++ option_to_list (result_err (linger_in doc))))
 
-unfoldable pub default_faults : Members → List ConfigFault
-default_faults doc =
-    option_to_list (or_if None (is_unknown (home_tables doc) (text_of DefaultHome doc)) (UnknownHome (spot part.Top 0 DefaultHome)))
+-- A key at the top names a home server that is not there.
+unfoldable pub unknown_faults : Key → Members → List ConfigFault
+unknown_faults key doc =
+    option_to_list (or_if None (is_unknown (home_tables doc) (text_of key doc)) (UnknownHome (spot part.Top 0 key)))
 
 unfoldable pub faults_in : Members → List ConfigFault
 faults_in doc =
     top_faults doc
-    ++ (part_faults part.Client doc ++ (part_faults part.Home doc ++ (part_faults part.Realm doc ++ default_faults doc)))
+    ++ (part_faults part.Client doc ++ (part_faults part.Home doc ++ (part_faults part.Realm doc
+    ++ (unknown_faults DefaultHome doc ++ unknown_faults OtherHome doc))))
 
 abbrev pub first_of : List ConfigFault → Option ConfigFault
 first_of [] = None

@@ -22,18 +22,22 @@ unfoldable pub realm_in : List ℕ → Option (List ℕ)
 realm_in [] = None
 realm_in (o ∷ os) = or_else (realm_in os) (if o == 64 then Some os else None)
 
--- The lane of a realm by the table. A realm that is empty or not in the table has no lane.
-unfoldable pub lane_in : List RealmEntry → List ℕ → Option ℕ
-lane_in table realm = if length realm == 0 then None else option_map (λ r. r.lane) (find (λ r. same_name r.name realm) table)
+-- The row of a realm in the table.
+abbrev pub row_of : List RealmEntry → List ℕ → Option RealmEntry
+row_of table realm = find (λ r. same_name r.name realm) table
+
+-- The lane of a realm: that of its row, or that of all other realms if it is in no row. An empty realm has no lane.
+unfoldable pub lane_in : List RealmEntry → Option ℕ → List ℕ → Option ℕ
+lane_in table other realm = if length realm == 0 then None else or_else (option_map (λ r. r.lane) (row_of table realm)) other
 
 -- The lane of a realm, or the default lane if there is no realm.
-abbrev pub lane_by : List RealmEntry → Option ℕ → Option (List ℕ) → Option ℕ
-lane_by table default None = default
-lane_by table default (Some realm) = lane_in table realm
+abbrev pub lane_by : Configuration → Option (List ℕ) → Option ℕ
+lane_by c None = c.default_lane
+lane_by c (Some realm) = lane_in c.realms c.other_lane realm
 
 -- The lane of a User-Name, or of a packet without a User-Name.
 abbrev pub lane_of : Configuration → Option (List ℕ) → Option ℕ
-lane_of c name = lane_by c.realms c.default_lane (option_and_then realm_in name)
+lane_of c name = lane_by c (option_and_then realm_in name)
 
 -- The names of the realms that lead to a lane, in the order of the table.
 abbrev pub realms_of : List RealmEntry → ℕ → List (List ℕ)
@@ -43,11 +47,12 @@ realms_of table lane = map (λ r. r.name) (filter (λ r. r.lane == lane) table)
 abbrev pub is_at : {A : Type 0} → (A → Bool) → List A → Option ℕ → Bool
 is_at passes items place = unwrap_or (option_map passes (option_and_then (slice_get items) place)) false
 
--- The rank of a realm among those that lead to its lane: in the list of their names, the name at this place is the
--- same as the realm's. Without a realm there is no rank.
+-- The rank of a realm among those of the table that lead to its lane: in the list of their names, the name at this
+-- place is the same as the realm's. There is no rank without a realm, nor for a realm that is in no row.
 abbrev pub IsRank : List RealmEntry → ℕ → Option (List ℕ) → Option ℕ → Type 0
 IsRank table lane None rank = rank ≡ None
-IsRank table lane (Some realm) rank = is_at (λ name. same_name name realm) (realms_of table lane) rank ≡ true
+IsRank table lane (Some realm) None = row_of table realm ≡ None
+IsRank table lane (Some realm) (Some place) = is_at (λ name. same_name name realm) (realms_of table lane) (Some place) ≡ true
 
 -- The client with an address.
 abbrev pub client_of : Configuration → List ℕ → Option ClientEntry
@@ -61,6 +66,6 @@ user_name text = option_map (λ a. a.value) (find (λ a. a.kind == 1) (packet_at
 unfoldable pub realm_of_packet : List ℕ → Option (List ℕ)
 realm_of_packet text = option_and_then realm_in (user_name text)
 
--- The lane of a packet, by a table of realms and a default lane.
-unfoldable pub lane_of_packet : List RealmEntry → Option ℕ → List ℕ → Option ℕ
-lane_of_packet table default text = lane_by table default (realm_of_packet text)
+-- The lane of a packet.
+unfoldable pub lane_of_packet : Configuration → List ℕ → Option ℕ
+lane_of_packet c text = lane_by c (realm_of_packet text)

@@ -4,7 +4,7 @@ use Rattle.std.specs.Fmt.{decimal}
 use Rattle.rad_config.specs.declared.reading.faults.Part.{Part}
 use Rattle.rad_config.specs.declared.reading.faults.Part.TheVariants as part
 use Rattle.rad_config.specs.declared.reading.faults.Key.{Key}
-use Rattle.rad_config.specs.declared.reading.faults.Key.TheVariants.{Listen, DefaultHome, Linger, Client, Home, Realm, Address, Secret, Name, Window, Queue, Book, Tries, FirstWait, ProbeEvery, DownWait, Span, Ring, Ports}
+use Rattle.rad_config.specs.declared.reading.faults.Key.TheVariants.{Listen, DefaultHome, OtherHome, Linger, Client, Home, Realm, Address, Secret, Name, Window, Queue, Book, Tries, FirstWait, ProbeEvery, DownWait, Span, Ring, Ports}
 use Rattle.rad_config.specs.declared.reading.faults.Spot.{Spot}
 use Rattle.rad_config.specs.declared.reading.faults.ConfigFault.{ConfigFault}
 use Rattle.rad_config.specs.declared.reading.faults.ConfigFault.TheVariants.{Toml, OutOfMemory, Missing, WrongType, OutOfRange, DoubleName, UnknownHome, BadAddress, TooMany}
@@ -18,6 +18,7 @@ part_name part.Realm = codes "realm"
 abbrev pub key_name : Key → List ℕ
 key_name Listen = codes "listen"
 key_name DefaultHome = codes "default_home"
+key_name OtherHome = codes "other_home"
 key_name Linger = codes "linger"
 key_name Client = codes "client"
 key_name Home = codes "home"

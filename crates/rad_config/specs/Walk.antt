@@ -13,7 +13,7 @@ use Rattle.rad_config.specs.declared.limits.LimitFault.TheVariants as limit
 use Rattle.rad_config.specs.declared.reading.faults.Part.{Part}
 use Rattle.rad_config.specs.declared.reading.faults.Part.TheVariants as part
 use Rattle.rad_config.specs.declared.reading.faults.Key.{Key}
-use Rattle.rad_config.specs.declared.reading.faults.Key.TheVariants.{Listen, DefaultHome, Linger, Client, Home, Realm, Address, Secret, Name, Window, Queue, Book, Tries, FirstWait, ProbeEvery, DownWait, Span, Ring, Ports}
+use Rattle.rad_config.specs.declared.reading.faults.Key.TheVariants.{Listen, DefaultHome, OtherHome, Linger, Client, Home, Realm, Address, Secret, Name, Window, Queue, Book, Tries, FirstWait, ProbeEvery, DownWait, Span, Ring, Ports}
 use Rattle.rad_config.specs.declared.reading.faults.Spot.{Spot}
 use Rattle.rad_config.specs.declared.reading.faults.ConfigFault.{ConfigFault}
 use Rattle.rad_config.specs.declared.reading.faults.ConfigFault.TheVariants.{Toml, Missing, WrongType, OutOfRange, DoubleName, UnknownHome, BadAddress, TooMany}
@@ -234,8 +234,9 @@ realm_in_table homes earlier doc = do
 abbrev pub listen_in : Members → Result Endpoint ConfigFault
 listen_in doc = endpoint_at (spot part.Top 0 Listen) doc
 
-abbrev pub default_home_in : Members → Result (Option (List ℕ)) ConfigFault
-default_home_in doc = optional_text_at (spot part.Top 0 DefaultHome) doc
+-- the name of a home server at a key, or none if the key is absent
+abbrev pub home_name_in : Key → Members → Result (Option (List ℕ)) ConfigFault
+home_name_in key doc = optional_text_at (spot part.Top 0 key) doc
 
 abbrev pub linger_in : Members → Result ℕ ConfigFault
 linger_in doc = number_at 0 600000 5000 (spot part.Top 0 Linger) doc
@@ -251,20 +252,23 @@ homes_in doc = array_of part.Home doc >>= each home_in []
 unfoldable pub realms_in : List HomeEntry → Members → Result (List RealmEntry) ConfigFault
 realms_in homes doc = array_of part.Realm doc >>= each (realm_in_table homes) []
 
-abbrev pub default_lane_in : List HomeEntry → Option (List ℕ) → Result (Option ℕ) ConfigFault
-default_lane_in homes None = Ok None
-default_lane_in homes (Some name) = lane_named homes (spot part.Top 0 DefaultHome) name >>= λ lane. Ok (Some lane)
+-- the lane of the home server that is named at a key, if one is
+abbrev pub lane_at : Key → List HomeEntry → Option (List ℕ) → Result (Option ℕ) ConfigFault
+lane_at key homes None = Ok None
+lane_at key homes (Some name) = lane_named homes (spot part.Top 0 key) name >>= λ lane. Ok (Some lane)
 
 unfoldable pub walk : Members → Result Configuration ConfigFault
 walk doc = do
   listen ← listen_in doc
-  default_home ← default_home_in doc
+  default_home ← home_name_in DefaultHome doc
+  other_home ← home_name_in OtherHome doc
   linger ← linger_in doc
   clients ← clients_in doc
   homes ← homes_in doc
   realms ← realms_in homes doc
-  default_lane ← default_lane_in homes default_home
-  Ok (record { listen = listen; linger = linger; clients = clients; homes = homes; realms = realms; default_lane = default_lane })
+  default_lane ← lane_at DefaultHome homes default_home
+  other_lane ← lane_at OtherHome homes other_home
+  Ok (record { listen = listen; linger = linger; clients = clients; homes = homes; realms = realms; default_lane = default_lane; other_lane = other_lane })
 
 -- The configuration that a text gives, or the first fault.
 unfoldable pub configuration_in : List ℕ → Result Configuration ConfigFault

@@ -13,7 +13,8 @@ pub record IsRealmName (name : List ℕ) : Type 0 where
 
 -- There are 1 to 256 clients with different addresses; 1 to 64 home servers with different names, whose limits are in
 -- their ranges; and at most 256 realms with valid names, no two of which are the same name. The lane of each realm,
--- and the default lane if there is one, is that of a home server.
+-- and each of the lanes for requests without a realm and for all other realms, if there is one, is that of a home
+-- server.
 pub record IsWellFormed (c : Configuration) : Type 0 where
   pub clients : (1 ≤ length c.clients) × (length c.clients ≤ 256)
   pub addresses : AllPairs (λ a b. a.address ≢ b.address) c.clients
@@ -25,3 +26,4 @@ pub record IsWellFormed (c : Configuration) : Type 0 where
   pub realm_names : AllPairs (λ a b. same_name a.name b.name ≡ false) c.realms
   pub lanes : All (λ r. r.lane < length c.homes) c.realms
   pub default_lane : IfSome c.default_lane (λ lane. lane < length c.homes)
+  pub other_lane : IfSome c.other_lane (λ lane. lane < length c.homes)

@@ -4,7 +4,9 @@ use crate::clients::{Client, Clients};
 use crate::homes::{Home, Homes};
 use crate::reading::Endpoint;
 use crate::realms::{Destination, Realm, Realms, realm_of};
+use std::alloc::AllocError;
 use std::marker::Model;
+use std::sync::Arc;
 
 /// A configuration: the address to listen on, the clients, the home servers with one lane each, and the realms that
 /// lead to them.
@@ -19,24 +21,28 @@ pub struct Config {
     /// The home servers, 1 to 64. The index of one is its lane.
     pub(crate) homes: Homes,
     /// The realms, at most 256, found by name.
-    pub(crate) realms: Realms,
+    pub(crate) realms: Arc<Realms>,
     /// The lane of requests without a realm, if there is a default home server.
     pub(crate) default_lane: Option<u16>,
+    /// The lane of the realms that are in no row of the table, if there is a home server for them.
+    pub(crate) other_lane: Option<u16>,
 }
 
 impl Model for Config {
+    ghost use Rattle.std.specs.Arc.{arc_value};
     ghost use Rattle.rad_config.specs.Configuration.{Configuration};
     ghost use Rattle.rad_config.specs.WellFormed.{IsWellFormed};
 
     ghost Value = { Configuration };
 
-    ghost view = { λ c. record { listen = c.listen; linger = c.linger; clients = c.clients; homes = c.homes; realms = c.realms; default_lane = c.default_lane } };
+    ghost view = { λ c. record { listen = c.listen; linger = c.linger; clients = c.clients; homes = c.homes; realms = arc_value c.realms; default_lane = c.default_lane; other_lane = c.other_lane } };
 
-    ghost invariant = { λ c. IsWellFormed (record { listen = c.listen; linger = c.linger; clients = c.clients; homes = c.homes; realms = c.realms; default_lane = c.default_lane }) };
+    ghost invariant = { λ c. IsWellFormed (record { listen = c.listen; linger = c.linger; clients = c.clients; homes = c.homes; realms = arc_value c.realms; default_lane = c.default_lane; other_lane = c.other_lane }) };
 }
 
 impl Config {
-    ghost use Rattle.std.specs.Prelude.{◌≡◌, ◌<◌, ◌≤◌, Some, All, length, IfSome, option_copied, option_map};
+    ghost use Rattle.std.specs.Arc.{arc_value};
+    ghost use Rattle.std.specs.Prelude.{◌≡◌, ◌<◌, ◌≤◌, Some, All, length, IfOk, IfSome, option_copied, option_map};
     ghost use Rattle.rad_config.specs.Realm.{client_of, lane_in, lane_by, lane_of, IsRank};
     ghost use Rattle.rad_config.specs.WellFormed.{IsWellFormed};
 
@@ -51,19 +57,23 @@ impl Config {
 
     #[tactic(auto, unfolding(crate::specs::Realm::lane_in))]
     fn destination_of_name(&self, name: &[u8]) -> Option<Destination>
-        ensures lane { option_map (λ d. d.lane) result ≡ lane_in self.now.realms name.now }
+        ensures lane { option_map (λ d. d.lane) result ≡ lane_in self.now.realms self.now.other_lane name.now }
         ensures rank { IfSome result (λ d. IsRank self.now.realms d.lane (Some name.now) d.rank) }
     {
         if name.is_empty() {
             return None;
         }
-        self.realms.find(name)
+        if let Some(destination) = self.realms.find(name) {
+            return Some(destination);
+        }
+        let lane = self.other_lane?;
+        Some(Destination { lane, rank: None })
     }
 
     /// Returns where a request with this realm leads, or one without a realm. It takes time logarithmic in the number of
     /// realms, and allocates nothing.
     pub fn destination_of(&self, realm: Option<&[u8]>) -> Option<Destination>
-        ensures lane { option_map (λ d. d.lane) result ≡ lane_by self.now.realms self.now.default_lane (option_copied realm.entry) }
+        ensures lane { option_map (λ d. d.lane) result ≡ lane_by self.now (option_copied realm.entry) }
         ensures rank { IfSome result (λ d. IsRank self.now.realms d.lane (option_copied realm.entry) d.rank) }
         ensures within { IfSome result (λ d. d.lane < length self.now.homes) }
     {
@@ -118,11 +128,30 @@ impl Config {
         self.realms.as_slice()
     }
 
+    /// Returns the realms once more, found by name. They are shared, not copied.
+    ///
+    /// # Errors
+    ///
+    /// `AllocError` if too many share them.
+    pub fn share_realms(&self) -> Result<Arc<Realms>, AllocError>
+        ensures { IfOk result (λ realms. arc_value realms ≡ self.now.realms) }
+    {
+        Arc::try_clone(&self.realms)
+    }
+
     /// Returns the address and port on which the clients' datagrams are received.
     pub fn listen(&self) -> Endpoint
         ensures { result ≡ self.now.listen }
     {
         self.listen
+    }
+
+    /// Returns the lane of the realms that are in no row of the table, if there is a home server for them.
+    pub fn other_lane(&self) -> Option<u16>
+        ensures value { result ≡ self.now.other_lane }
+        ensures within { IfSome result (λ lane. lane < length self.now.homes) }
+    {
+        self.other_lane
     }
 
     /// Returns how long the program waits for outstanding requests at its end, in milliseconds.

@@ -28,4 +28,4 @@ pub use reading::{
     AddressText, ConfigFault, Endpoint, Key, Part, Spot, list_faults, read_address, read_config,
     read_document, read_number, split_around,
 };
-pub use realms::{Destination, Realm, realm_of};
+pub use realms::{Destination, Realm, Realms, realm_of};

@@ -61,14 +61,14 @@ impl Realm {
 pub struct Destination {
     /// The lane.
     pub lane: u16,
-    /// The index of the request's realm among the realms that lead to this lane, in their order, counted from 0. A
-    /// request without a realm has none.
+    /// The index of the request's realm among the realms of the table that lead to this lane, in their order, counted
+    /// from 0. A request without a realm has none, nor has one whose realm is in no row.
     pub rank: Option<usize>,
 }
 
 /// The realms in the order of the configuration, found by name.
 #[derive(Drop)]
-pub(crate) struct Realms {
+pub struct Realms {
     /// The realms in their order.
     items: Vec<Realm>,
     /// The destination of each name in lower case.
@@ -89,7 +89,7 @@ impl Model for Realms {
 
 impl Realms {
     ghost use Rattle.std.specs.Prelude.{◌≡◌, ◌≤◌, [], ◌∷◌, ◌++◌, Some, None, OnOk, IfSome, length, find, is_some, option_map};
-    ghost use Rattle.rad_config.specs.Realm.{same_name, IsRank};
+    ghost use Rattle.rad_config.specs.Realm.{row_of, IsRank};
 
     pub(crate) fn new(alloc: Global) -> Realms
         ensures { result ≡ [] }
@@ -108,7 +108,7 @@ impl Realms {
 
     /// Returns the destination of the realm with a name. It takes logarithmic time.
     pub(crate) fn find(&self, name: &[u8]) -> Option<Destination>
-        ensures lane { option_map (λ d. d.lane) result ≡ option_map (λ r. r.lane) (find (λ r. same_name r.name name.now) self.now) }
+        ensures lane { option_map (λ d. d.lane) result ≡ option_map (λ r. r.lane) (row_of self.now name.now) }
         ensures rank { IfSome result (λ d. IsRank self.now d.lane (Some name.now) d.rank) }
     {
         let places = &self.by_name;
@@ -120,18 +120,19 @@ impl Realms {
         destination_kept(places, front(&buffer, name.len()))
     }
 
-    /// Whether there is a realm with a name. It takes logarithmic time.
+    /// Returns whether there is a realm with a name. ASCII letters are compared without case. It takes time logarithmic
+    /// in the number of realms, and allocates nothing.
     #[tactic(auto, using(crate::proofs::Names::is_some_mapped))]
-    pub(crate) fn has(&self, name: &str) -> bool
-        ensures { result ≡ is_some (find (λ r. same_name r.name name.now) self.now) }
+    pub fn has(&self, name: &[u8]) -> bool
+        ensures { result ≡ is_some (row_of self.now name.now) }
     {
-        self.find(name.as_bytes()).is_some()
+        self.find(name).is_some()
     }
 
     /// Appends a realm with a new name. Its cost is linear in the number of realms.
     pub(crate) fn push(&mut self, alloc: Global, realm: Realm) -> Result<(), AllocError>
         requires short { length realm.name ≤ 252 }
-        requires new { find (λ r. same_name r.name realm.name) self.old ≡ None }
+        requires new { row_of self.old realm.name ≡ None }
         ensures { OnOk result (self.new ≡ self.old ++ realm ∷ []) }
     {
         let key = lower_case(alloc, realm.name().as_bytes())?;

@@ -53,7 +53,7 @@ leads_by config lane setup (Some realm) s leads =
     let there = found_there realm lane config.realms leads in
     (there.0, subst (λ (names : List (List ℕ)). IsTrue (list_any (λ name. same_name name realm) names)) (sym (ap (λ (s : LaneSetup). s.realms) s.parts)) there.1)
 
-pub of_its_realms : (config : Configuration) (lane : ℕ) (setup : LaneSetup) (text : List ℕ) → IsSetUp config lane setup → lane_of_packet config.realms config.default_lane text ≡ Some lane → IsOfItsRealms setup text
+pub of_its_realms : (config : Configuration) (lane : ℕ) (setup : LaneSetup) (text : List ℕ) → IsSetUp config lane setup → lane_of_packet config text ≡ Some lane → IsOfItsRealms setup text
 unfolding lane_of_packet
 of_its_realms config lane setup text s leads = leads_by config lane setup (realm_of_packet text) s leads
 

@@ -25,7 +25,7 @@ ghost use Rattle.rad_lane.specs.declared.stamp.Stamp.{Stamp};
 pub fn a_lane_takes_what_leads_to_it()
     ensures realm { (config : Configuration) (lane : ℕ) (setup : LaneSetup) (text : List ℕ)
         → IsSetUp config lane setup
-        → lane_of_packet config.realms config.default_lane text ≡ Some lane
+        → lane_of_packet config text ≡ Some lane
         → IsOfItsRealms setup text }
     ensures taken { (book : Book) (request : Request)
         → IsChecked request

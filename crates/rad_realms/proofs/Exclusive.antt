@@ -104,14 +104,14 @@ dropped_once config address datagram e f d h = one_way config address datagram e
 
 -- ---- what is taken
 
-not_a_request : (config : Configuration) (secret text : List ℕ) (lane : ℕ) (e : Dropped) → IsRequest secret text → lane_of_packet config.realms config.default_lane text ≡ Some lane → DropsPacket config secret text e → ⊥
+not_a_request : (config : Configuration) (secret text : List ℕ) (lane : ℕ) (e : Dropped) → IsRequest secret text → lane_of_packet config text ≡ Some lane → DropsPacket config secret text e → ⊥
 not_a_request config secret text lane UnknownClient r found d = d
 not_a_request config secret text lane (Unread fault) r found d = d
 not_a_request config secret text lane WrongCode r found d = d.0 r.code
 not_a_request config secret text lane BadAuthenticator r found d = d.1 r.right
 not_a_request config secret text lane BadMessageAuthenticator r found d = two_codes (code_of text) r.code d.0
 not_a_request config secret text lane MessageAuthenticatorHere r found d = d.2 r.unsigned
-not_a_request config secret text lane NoRealm r found d = no_lane lane (lane_of_packet config.realms config.default_lane text) d.1 found
+not_a_request config secret text lane NoRealm r found d = no_lane lane (lane_of_packet config text) d.1 found
 
 not_a_status : (config : Configuration) (secret text : List ℕ) (e : Dropped) → code_of text ≡ 12 → IsRightStatus secret text → DropsPacket config secret text e → ⊥
 not_a_status config secret text UnknownClient code right d = d
@@ -125,7 +125,7 @@ not_a_status config secret text NoRealm code right d = two_codes (code_of text) 
 packet_not_dropped : (config : Configuration) (client : ClientEntry) (port : ℕ) (text : List ℕ) (taken : Incoming) (e : Dropped) → TakesPacket config client port text taken → DropsPacket config client.secret text e → ⊥
 packet_not_dropped config client port text (incoming.Request r) e t d =
     let request : IsRequest client.secret text = subst (λ (s : List ℕ). IsRequest s text) t.same_secret (subst (λ (x : List ℕ). IsRequest r.secret x) t.same_text t.checked.request) in
-    let lane : lane_of_packet config.realms config.default_lane text ≡ Some r.lane = subst (λ (c : Configuration). lane_of_packet c.realms c.default_lane text ≡ Some r.lane) t.same_config (subst (λ (x : List ℕ). lane_of_packet r.config.realms r.config.default_lane x ≡ Some r.lane) t.same_text t.checked.lane) in
+    let lane : lane_of_packet config text ≡ Some r.lane = subst (λ (c : Configuration). lane_of_packet c text ≡ Some r.lane) t.same_config (subst (λ (x : List ℕ). lane_of_packet r.config x ≡ Some r.lane) t.same_text t.checked.lane) in
     not_a_request config client.secret text r.lane e request lane d
 packet_not_dropped config client port text (incoming.Status s) e t d =
     let code : code_of text ≡ 12 = subst (λ (x : List ℕ). code_of x ≡ 12) t.same_text t.checked.code in

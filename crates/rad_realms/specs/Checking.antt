@@ -34,7 +34,7 @@ pub record IsRequest (secret text : List ℕ) : Type 0 where
 pub record IsChecked (r : Request) : Type 0 where
   pub request : IsRequest r.secret r.text
   pub client : client_of r.config r.client ≡ Some (record { address = r.client; secret = r.secret })
-  pub lane : lane_of_packet r.config.realms r.config.default_lane r.text ≡ Some r.lane
+  pub lane : lane_of_packet r.config r.text ≡ Some r.lane
   pub within : r.lane < length r.config.homes
 
 -- A Status-Server that passed the checks: its text, and the client's secret.
@@ -62,7 +62,7 @@ DropsPacket config secret text BadMessageAuthenticator = (code_of text ≡ 12) �
 DropsPacket config secret text MessageAuthenticatorHere =
     (code_of text ≡ 4) × IsRightRequest secret text × (of_kind 80 (packet_attributes text) ≢ [])
 DropsPacket config secret text NoRealm =
-    IsRequest secret text × (lane_of_packet config.realms config.default_lane text ≡ None)
+    IsRequest secret text × (lane_of_packet config text ≡ None)
 
 -- A datagram from a client is read as a packet that is dropped for this reason.
 abbrev pub DropsArrived : Configuration → List ℕ → List ℕ → Dropped → Type 0

@@ -14,7 +14,7 @@ pub use checking::{
 pub use laws::taken_or_dropped_once;
 pub use rad_config::{
     AddressText, Client, Config, ConfigFault, DEFAULT_LIMITS, Destination, Endpoint, Home, Key,
-    LimitFault, LimitNumbers, Limits, Part, Realm, Spot, addresses_have_one_text,
+    LimitFault, LimitNumbers, Limits, Part, Realm, Realms, Spot, addresses_have_one_text,
     configurations_are_well_formed, endpoints_have_one_text, list_faults, no_fault_in_range,
     numbers_have_one_text, read_address, read_config, read_document, realm_follows_the_last_sign,
 };

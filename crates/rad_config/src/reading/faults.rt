@@ -134,6 +134,8 @@ pub enum Key {
     Listen,
     /// `default_home`.
     DefaultHome,
+    /// `other_home`.
+    OtherHome,
     /// `linger`.
     Linger,
     /// `client`.
@@ -181,6 +183,7 @@ impl Key {
         match self {
             Key::Listen => "listen",
             Key::DefaultHome => "default_home",
+            Key::OtherHome => "other_home",
             Key::Linger => "linger",
             Key::Client => "client",
             Key::Home => "home",

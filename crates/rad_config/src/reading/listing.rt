@@ -4,13 +4,13 @@ ghost use Rattle.std.specs.Prelude.{◌≡◌, ◌++◌, [], All, option_map, op
 ghost use Rattle.std.specs.List.{list_any};
 ghost use Rattle.toml.specs.View.{table_view};
 ghost use Rattle.rad_config.specs.internal.Values.{IsTable, table_of, tables_of_values};
-ghost use Rattle.rad_config.specs.Faults.{text_of, is_text, is_same, is_among as stands_among, is_unknown as names_none, or_if, name_fault, home_fault, client_faults, home_faults, realm_faults, table_faults, each_faults, home_tables as tables_of_homes, part_faults, top_faults, default_faults, faults_in};
+ghost use Rattle.rad_config.specs.Faults.{text_of, is_text, is_same, is_among as stands_among, is_unknown as names_none, or_if, name_fault, home_fault, client_faults, home_faults, realm_faults, table_faults, each_faults, home_tables as tables_of_homes, part_faults, top_faults, unknown_faults, faults_in};
 
 use super::arrays::{table, tables_of_part};
 use super::document::{address, address_and_port, home_name, member, realm_name, secret, text};
 use super::faults::{ConfigFault, Key, Part, Spot};
 use super::sections::{lane_limits, spot_of};
-use super::walk::{default_home, linger, listen};
+use super::walk::{home_name_of, linger, listen};
 use std::alloc::{AllocError, Global};
 use toml::{Table, Value};
 
@@ -36,7 +36,8 @@ fn add_of_document(faults: &mut Vec<ConfigFault>, doc: &Table) -> Result<(), All
     add_of_part(faults, Part::Client, doc)?;
     add_of_part(faults, Part::Home, doc)?;
     add_of_part(faults, Part::Realm, doc)?;
-    add_of_default(faults, doc)
+    add_of_unknown(faults, Key::DefaultHome, doc)?;
+    add_of_unknown(faults, Key::OtherHome, doc)
 }
 
 #[tactic(auto, unfolding(crate::specs::Faults::top_faults), using(crate::proofs::Listing::reads_err))]
@@ -44,16 +45,17 @@ fn add_of_top(faults: &mut Vec<ConfigFault>, doc: &Table) -> Result<(), AllocErr
     ensures { OnOk result (faults.new.items ≡ faults.old.items ++ top_faults (table_view doc.now)) }
 {
     add_fault(faults, listen(doc).err())?;
-    add_fault(faults, default_home(doc).err())?;
+    add_fault(faults, home_name_of(Key::DefaultHome, doc).err())?;
+    add_fault(faults, home_name_of(Key::OtherHome, doc).err())?;
     add_fault(faults, linger(doc).err())
 }
 
-#[tactic(auto, unfolding(crate::specs::Faults::default_faults))]
-fn add_of_default(faults: &mut Vec<ConfigFault>, doc: &Table) -> Result<(), AllocError>
-    ensures { OnOk result (faults.new.items ≡ faults.old.items ++ default_faults (table_view doc.now)) }
+#[tactic(auto, unfolding(crate::specs::Faults::unknown_faults))]
+fn add_of_unknown(faults: &mut Vec<ConfigFault>, key: Key, doc: &Table) -> Result<(), AllocError>
+    ensures { OnOk result (faults.new.items ≡ faults.old.items ++ unknown_faults key (table_view doc.now)) }
 {
-    let unknown = is_unknown(home_tables(doc), text_at_key(Key::DefaultHome, doc));
-    let fault = ConfigFault::UnknownHome(spot_of(Part::Top, 0, Key::DefaultHome));
+    let unknown = is_unknown(home_tables(doc), text_at_key(key, doc));
+    let fault = ConfigFault::UnknownHome(spot_of(Part::Top, 0, key));
     add_fault(faults, fault_or(None, unknown, fault))
 }
 

@@ -170,7 +170,7 @@ fn add_realm(
     let index = realms.as_slice().len();
     let at = spot_of(Part::Realm, index, Key::Name);
     let name = realm_name(at, doc)?;
-    if realms.has(name) {
+    if realms.has(name.as_bytes()) {
         return Err(ConfigFault::DoubleName(at));
     }
     let at_home = spot_of(Part::Realm, index, Key::Home);

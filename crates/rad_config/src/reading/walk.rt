@@ -4,7 +4,7 @@ ghost use Rattle.std.specs.Prelude.{◌≡◌, Option, option_map};
 ghost use Rattle.toml.specs.View.{table_view};
 ghost use Rattle.rad_config.specs.Gives.{Gives};
 ghost use Rattle.rad_config.specs.internal.Values.{Reads};
-ghost use Rattle.rad_config.specs.Walk.{listen_in, default_home_in, linger_in, clients_in, homes_in, realms_in, default_lane_in, walk, configuration_in};
+ghost use Rattle.rad_config.specs.Walk.{listen_in, home_name_in, linger_in, clients_in, homes_in, realms_in, lane_at, walk, configuration_in};
 
 use super::address::Endpoint;
 use super::arrays::tables_of_part;
@@ -16,6 +16,7 @@ use crate::config::Config;
 use crate::homes::Homes;
 use crate::realms::Realms;
 use std::alloc::Global;
+use std::sync::Arc;
 use toml::Table;
 
 /// Reads a configuration from its text, which is TOML.
@@ -50,12 +51,15 @@ pub fn read_document(alloc: Global, doc: &Table) -> Result<Config, ConfigFault>
     ensures { Gives result (walk (table_view doc.now)) }
 {
     let listen = listen(doc)?;
-    let default_home = default_home(doc)?;
+    let default_home = home_name_of(Key::DefaultHome, doc)?;
+    let other_home = home_name_of(Key::OtherHome, doc)?;
     let linger = linger(doc)?;
     let clients = read_clients(alloc, doc)?;
     let homes = read_homes(alloc, doc)?;
     let realms = read_realms(alloc, &homes, doc)?;
-    let default_lane = default_lane(&homes, default_home)?;
+    let default_lane = lane_of(Key::DefaultHome, &homes, default_home)?;
+    let other_lane = lane_of(Key::OtherHome, &homes, other_home)?;
+    let realms = Arc::new(alloc, realms)?;
     let config = Config {
         listen,
         linger,
@@ -63,6 +67,7 @@ pub fn read_document(alloc: Global, doc: &Table) -> Result<Config, ConfigFault>
         homes,
         realms,
         default_lane,
+        other_lane,
     };
     Ok(config)
 }
@@ -73,10 +78,10 @@ pub(crate) fn listen(doc: &Table) -> Result<Endpoint, ConfigFault>
     address_and_port(spot_of(Part::Top, 0, Key::Listen), doc)
 }
 
-pub(crate) fn default_home(doc: &Table) -> Result<Option<&str>, ConfigFault>
-    ensures { Reads (λ o. option_map (λ s. s.now) o) result (default_home_in (table_view doc.now)) }
+pub(crate) fn home_name_of(key: Key, doc: &Table) -> Result<Option<&str>, ConfigFault>
+    ensures { Reads (λ o. option_map (λ s. s.now) o) result (home_name_in key (table_view doc.now)) }
 {
-    optional_text(spot_of(Part::Top, 0, Key::DefaultHome), doc)
+    optional_text(spot_of(Part::Top, 0, key), doc)
 }
 
 pub(crate) fn linger(doc: &Table) -> Result<u32, ConfigFault>
@@ -106,12 +111,12 @@ fn read_realms(alloc: Global, homes: &Homes, doc: &Table) -> Result<Realms, Conf
     realms_of(alloc, homes, tables_of_part(Part::Realm, doc)?)
 }
 
-fn default_lane(homes: &Homes, name: Option<&str>) -> Result<Option<u16>, ConfigFault>
-    ensures { result ≡ default_lane_in homes.now (option_map (λ s. s.now) name.entry) }
+fn lane_of(key: Key, homes: &Homes, name: Option<&str>) -> Result<Option<u16>, ConfigFault>
+    ensures { result ≡ lane_at key homes.now (option_map (λ s. s.now) name.entry) }
 {
     match name {
         Some(name) => {
-            let lane = lane_of_home(homes, spot_of(Part::Top, 0, Key::DefaultHome), name)?;
+            let lane = lane_of_home(homes, spot_of(Part::Top, 0, key), name)?;
             Ok(Some(lane))
         }
         None => Ok(None),
