@@ -1,5 +1,6 @@
 pub mod Stamp
 pub mod Setup
+pub mod WithoutOtherHome
 pub mod Session
 pub mod Outstanding
 pub mod Entries

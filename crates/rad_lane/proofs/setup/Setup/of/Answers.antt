@@ -8,5 +8,5 @@ returns c =
     record {
       home = c.index-homes-from.result;
       there = slice_get_read c.args.config.now.homes _ c.args.lane c.index-homes-from.result refl c.requires home;
-      parts = rw (c.limits.ensures, c.secret.ensures, c.in_ok-realms_of.ensures, c.realms.ensures.value, c.is_same_lane.ensures, c.lane_of.ensures.lane) refl;
+      parts = rw (c.limits.ensures, c.secret.ensures, c.in_ok-realms_of.ensures, c.realms.ensures.value, c.in_ok-unlisted_of.ensures, c.is_same_lane.ensures, c.lane_of.ensures.lane) refl;
     }
