@@ -13,8 +13,8 @@ use Rattle.rad_realms.specs.Address.{address_in}
 use Rattle.json_objects.specs.Written.{IsValue}
 use Rattle.ledger_lines.specs.Lines.{Denies, HasText, HasNumber, HasOctets, HasArray, HasRun, HasState, HasTime, IsTime, HasClient, MayHaveNumber, MayHaveSum, MayHaveTime, MayHaveWords, state_text}
 use Rattle.ledger_lines.specs.declared.faults.LineFault.{LineFault}
-use Rattle.rad_desk.specs.declared.leaving.LeftState.{LeftState}
-use Rattle.rad_desk.specs.declared.leaving.LeftState.TheVariants.{Queued, Outstanding, Untaken}
+use Rattle.rad_lane.specs.declared.leftover.LeftState.{LeftState}
+use Rattle.rad_lane.specs.declared.leftover.LeftState.TheVariants.{Queued, Outstanding, Untaken}
 use Rattle.ledger_lines.proofs.Lines.{denied, differ}
 use Rattle.ledger_lines.proofs.Pairs.{DigitsRead}
 use Rattle.ledger_lines.proofs.Found.{same_some, string_by, TextThere, NumberThere, OctetsThere, narrower, too_large, none_below}

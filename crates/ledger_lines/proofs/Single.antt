@@ -7,9 +7,9 @@ use Rattle.json.specs.Json.{Json, Items, no_items, item, array}
 use Rattle.rad_realms.specs.Address.{address_in}
 use Rattle.ledger_rules.specs.declared.entry.Entry.{Entry}
 use Rattle.ledger_rules.specs.declared.left.Left.{Left}
-use Rattle.rad_desk.specs.declared.leaving.LeftState.{LeftState}
+use Rattle.rad_lane.specs.declared.leftover.LeftState.{LeftState}
 use Rattle.ledger_rules.specs.declared.line_request.LineRequest.{LineRequest}
-use Rattle.rad_desk.specs.declared.leaving.LeftState.TheVariants.{Queued, Outstanding, Untaken}
+use Rattle.rad_lane.specs.declared.leftover.LeftState.TheVariants.{Queued, Outstanding, Untaken}
 use Rattle.ledger_lines.specs.declared.begin.Begin.{Begin}
 use Rattle.ledger_lines.specs.declared.end.End.{End}
 use Rattle.ledger_lines.specs.declared.begin.FileBefore.{FileBefore}

@@ -12,8 +12,8 @@ use Rattle.hex.specs.Hex.{decode_of}
 use Rattle.rad_realms.specs.Address.{address_in}
 use Rattle.ledger_rules.specs.declared.entry.Entry.{Entry}
 use Rattle.ledger_rules.specs.declared.left.Left.{Left}
-use Rattle.rad_desk.specs.declared.leaving.LeftState.{LeftState}
-use Rattle.rad_desk.specs.declared.leaving.LeftState.TheVariants.{Queued, Outstanding, Untaken}
+use Rattle.rad_lane.specs.declared.leftover.LeftState.{LeftState}
+use Rattle.rad_lane.specs.declared.leftover.LeftState.TheVariants.{Queued, Outstanding, Untaken}
 use Rattle.ledger_rules.specs.declared.line_request.LineRequest.{LineRequest}
 use Rattle.ledger_lines.specs.Moments.{IsMoment}
 use Rattle.ledger_lines.specs.declared.begin.Begin.{Begin}

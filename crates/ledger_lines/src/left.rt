@@ -8,7 +8,7 @@ ghost use Rattle.json.specs.Tree.{json_tokens};
 ghost use Rattle.json_objects.specs.Adding.{Adds};
 ghost use Rattle.json_objects.specs.Written.{HasLineBehind, HasValueBehind};
 ghost use Rattle.ledger_lines.specs.Written.{left_value};
-ghost use Rattle.rad_desk.specs.declared.leaving.LeftState.{LeftState as TheState};
+ghost use Rattle.rad_lane.specs.declared.leftover.LeftState.{LeftState as TheState};
 
 use crate::about::{about_at, lane_members, request_members};
 use crate::faults::LineFault;

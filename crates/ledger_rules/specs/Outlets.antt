@@ -1,7 +1,7 @@
 -- What a tally shows of the outlet of a lane (own).
 use Rattle.std.specs.Prelude.{◌≡◌, ℕ, List, length, map as each, Some}
 use Rattle.rad_lane.specs.declared.outgoing.Outgoing.{Outgoing}
-use Rattle.rad_desk.specs.Outlet.{InOrder}
+use Rattle.rad_lane.specs.Outgoing.{InOrder}
 use Rattle.ledger_rules.specs.declared.tally.Tally.{Tally}
 
 -- The serials of responses, in order.

@@ -1,7 +1,7 @@
 //! A request that was left when a run ended.
 
 use crate::line_request::LineRequest;
-use rad_desk::LeftState;
+use rad_lane::LeftState;
 
 /// A request that was accepted and whose client has no response of it.
 #[derive(Clone, Copy)]

@@ -28,6 +28,6 @@ pub use left::Left;
 pub use line_request::LineRequest;
 pub use numbers::{MOST_RANGES, Numbers};
 pub use packets::{ends_with_mark, whole_packet};
-pub use rad_desk::LeftState;
+pub use rad_lane::LeftState;
 pub use reason::Reason;
 pub use tally::{Gap, Tally, Verdict};

@@ -5,8 +5,8 @@ ghost use Rattle.std.specs.Prelude.{◌≡◌, ◌↔◌, ◌-◌, IsTrue, optio
 ghost use Rattle.ledger_writer.specs.Parcels.{Fits, IsCounted, IsParcelOf, IsParcelOfLeft, octets_of};
 
 use rad_auth::{Mark, RequestHead};
-use rad_desk::{LeftRecord, LeftState};
-use rad_lane::Outgoing;
+use rad_desk::LeftRecord;
+use rad_lane::{LeftState, Outgoing};
 
 /// The greatest length of a packet (RFC 2865 section 3).
 const LONGEST: usize = 4096;

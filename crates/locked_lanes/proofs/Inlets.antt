@@ -5,7 +5,7 @@ use Rattle.rtrb.specs.Ring.{SameConsumer}
 use Rattle.rad_lane.specs.declared.outgoing.Outgoing.{Outgoing}
 use Rattle.rad_lane.specs.Outstanding.{AnswerKept}
 use Rattle.locked_lanes.specs.declared.inlet.Inlet.{Inlet}
-use Rattle.locked_lanes.specs.Outlet.{InOrder}
+use Rattle.rad_lane.specs.Outgoing.{InOrder}
 use Rattle.locked_lanes.specs.Inlet.{lane_of, taken, SameInlet, Empties}
 use Rattle.locked_lanes.specs.Ending.{AgreesAmong, IsTheRest}
 use Rattle.locked_lanes.proofs.Rests.{rest_goes_on}

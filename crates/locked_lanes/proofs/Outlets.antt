@@ -13,7 +13,8 @@ use Rattle.rad_lane.specs.Outstanding.{AnswerKept}
 use Rattle.rad_lane.specs.Book.{Book}
 use Rattle.rad_lane.specs.Empty.{empty_book}
 use Rattle.rad_lane.specs.Hears.{HearsReply, GoesOut}
-use Rattle.locked_lanes.specs.Outlet.{InOrder, Agrees, AgreesAtItsSerial, IsOutlet}
+use Rattle.rad_lane.specs.Outgoing.{InOrder}
+use Rattle.locked_lanes.specs.Outlet.{Agrees, AgreesAtItsSerial, IsOutlet}
 use Rattle.locked_lanes.proofs.Answers.{answers_of, one_more_by_reply}
 
 pub range_more : (from count : ℕ) → range_with_len from (count + 1) ≡ range_with_len from count ++ (from + count) ∷ []

@@ -5,7 +5,8 @@ use Rattle.std.specs.List.{range_with_len}
 use Rattle.std.proofs.lemmas.Option.{get_or_from_slice_get, slice_get_within}
 use Rattle.rad_lane.specs.declared.outgoing.Outgoing.{Outgoing}
 use Rattle.rad_lane.specs.Outstanding.{AnswerKept}
-use Rattle.locked_lanes.specs.Outlet.{InOrder, Agrees}
+use Rattle.rad_lane.specs.Outgoing.{InOrder}
+use Rattle.locked_lanes.specs.Outlet.{Agrees}
 use Rattle.locked_lanes.specs.declared.desk.Desk.{Desk}
 use Rattle.locked_lanes.specs.declared.inlet.Inlet.{Inlet}
 use Rattle.locked_lanes.specs.declared.report.Rest.{Rest}

@@ -1,13 +1,9 @@
 -- The outlet of a lane (own): the responses that were added to its ring, beside the book of the lane.
-use Rattle.std.specs.Prelude.{◌≡◌, ℕ, ◌+◌, List, length, map as each, slice_get, All, Option, Some, None, MatchOption}
-use Rattle.std.specs.List.{range_with_len}
+use Rattle.std.specs.Prelude.{◌≡◌, ℕ, ◌+◌, List, length, slice_get, All, Option, Some, None, MatchOption}
 use Rattle.rad_lane.specs.declared.outgoing.Outgoing.{Outgoing}
+use Rattle.rad_lane.specs.Outgoing.{InOrder}
 use Rattle.rad_lane.specs.Outstanding.{AnswerKept}
 use Rattle.rad_lane.specs.Book.{Book}
-
--- The serials of the responses are 0, 1, 2 and so on.
-abbrev pub InOrder : List Outgoing → Type 0
-InOrder responses = each (λ r. r.serial) responses ≡ range_with_len 0 (length responses)
 
 -- How many responses there are up to the one of this serial, counted from serial 0. Without a serial there are none.
 abbrev pub count_to : Option ℕ → ℕ

@@ -2,7 +2,8 @@
 
 ghost use Rattle.std.specs.Prelude.{◌≡◌, length};
 ghost use Rattle.rtrb.specs.Ring.{received};
-ghost use Rattle.locked_lanes.specs.Outlet.{InOrder, count_to};
+ghost use Rattle.rad_lane.specs.Outgoing.{InOrder};
+ghost use Rattle.locked_lanes.specs.Outlet.{count_to};
 ghost use Rattle.locked_lanes.specs.Fates.{EachOnce};
 
 use crate::numbered::Numbered;
@@ -32,7 +33,7 @@ pub struct Inlet {
 impl Inlet {
     ghost use Rattle.std.specs.Prelude.{◌≡◌, ◌<◌, ◌↔◌, ◌∷◌, ◌++◌, [], length, IsTrue, IsSome, IfSome, IfNone, OnOk};
     ghost use mathlib.Core.List.{IsPrefix};
-    ghost use Rattle.locked_lanes.specs.Outlet.{InOrder};
+    ghost use Rattle.rad_lane.specs.Outgoing.{InOrder};
     ghost use Rattle.locked_lanes.specs.Fates.{EachOnce};
     ghost use Rattle.locked_lanes.specs.Inlet.{lane_of, taken, seen, SameInlet, IsUntouched, HasRoom, Empties};
 

@@ -52,6 +52,7 @@ impl Model for Reply {
 
 impl Reply {
     ghost use Rattle.std.specs.Prelude.{◌≡◌, ◌<◌, ◌^◌, ◌++◌, List, ℕ, IfOk};
+    ghost use Rattle.rad_packet.specs.Packet.{IsPacketText};
     ghost use Rattle.rad_auth.specs.Answers.{Answers};
     ghost use Rattle.rad_auth.specs.Mark.{EndsWithMark, mark_value};
     ghost use Rattle.rad_auth.specs.Replied.{IsAnswer};
@@ -127,6 +128,7 @@ impl Reply {
 
     /// Returns the mark of the packet that was sent to the home server: its last attribute (RFC 2865 section 5.33).
     pub fn mark(&self) -> Mark
+        ensures packet { IsPacketText self.now.sending }
         ensures ends { EndsWithMark result self.now.sending }
         ensures alone { (mark : Mark) → mark.lane < 2 ^ 16 → mark.number < 2 ^ 64 → EndsWithMark mark self.now.sending → result ≡ mark }
     {

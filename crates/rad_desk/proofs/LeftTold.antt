@@ -1,20 +1,36 @@
 -- What a ledger was told, put together from its parts.
-use Rattle.std.proofs.Common.{◌≡◌, ℕ, zero, suc, ◌+◌, ◌-◌, ◌<◌, ◌≤◌, ◌/◌, ◌%◌, List, [], ◌∷◌, ◌++◌, length, get_or, take, drop, Option, Some, None, nat_lt, false, refl, sym, ap, ◌∙◌, arith, append-nil, append_assoc, length-append, length-take, length-take-le, length-drop}
+use Rattle.std.proofs.Common.{◌≡◌, ℕ, zero, suc, ◌+◌, ◌-◌, ◌<◌, ◌≤◌, ◌^◌, List, [], ◌∷◌, ◌++◌, length, get_or, take, drop, Option, Some, None, nat_lt, false, refl, sym, ap, ◌∙◌, arith, append-nil, append_assoc, length-take}
 use Rattle.std.specs.Prelude.{map as each}
 use Rattle.std.specs.List.{flat_map, range_with_len}
-use Rattle.std.specs.FinMap as map
 use Rattle.std.proofs.lemmas.Bool.Decides.{nat_tests}
-use Rattle.std.proofs.lemmas.List.{take_more, drop_more, take_all}
+use Rattle.std.specs.Int.{w16, w64, from_be_bytes, to_be_bytes}
+use Rattle.std.proofs.lemmas.List.{drop-drop, take_more, drop_more, take_all}
+use Rattle.std.proofs.lemmas.Nat.{from_be_bytes-to_be_bytes_8}
+use Rattle.std.proofs.Math.Seq.{drop-append_seam}
 use Rattle.std.proofs.Math.ListN.{drop_of_length-le}
-use Rattle.rad_packet.specs.Packet.{packet_text}
+use Rattle.rad_packet.specs.Packet.{IsPacketText, packet_text}
 use Rattle.rad_packet.proofs.Buffer.{take-put_behind, header-is}
+use Rattle.rad_auth.specs.declared.mark.Mark.{Mark}
 use Rattle.rad_auth.specs.declared.reply.RequestHead.{RequestHead}
+use Rattle.rad_auth.specs.Mark.{EndsWithMark, mark_value}
+use Rattle.rad_auth.proofs.Returns.{value_at_end}
 use Rattle.rad_tables.specs.Pairs.{Table}
 use Rattle.rad_lane.specs.declared.entry.Entry.{Entry}
 use Rattle.rad_lane.specs.declared.outgoing.Outgoing.{Outgoing}
 use Rattle.rad_lane.specs.Stamp.{Kept}
 use Rattle.locked_lanes.specs.declared.report.LaneEnd.{LaneEnd}
-use Rattle.rad_desk.specs.Leaving.{Left, left_with, queued_left, untaken_left, restored, left_at, left_under, left_of_pairs, left_of_queue, left_of_lane, left_of_all}
+use Rattle.locked_lanes.specs.Fates.{marked_number}
+use Rattle.rad_desk.specs.Leaving.{Left, left_with, queued_left, restored, left_at, left_under, left_of_pairs, left_of_queue, left_of_lane, left_of_all}
+
+-- The last eight octets of what was sent are the number of its mark.
+pub number_at_end : (sending : List ℕ) (mark : Mark) → IsPacketText sending → EndsWithMark mark sending → mark.number < 2 ^ 64 → mark.number ≡ marked_number sending
+unfolding mark_value
+number_at_end sending mark p ends small =
+    let lane = to_be_bytes w16 mark.lane in
+    let number = to_be_bytes w64 mark.number in
+    let place : length sending - 8 ≡ length sending - 10 + 2 = omega (arith, p.least) in
+    let last : drop (length sending - 8) sending ≡ number = ap (λ n. drop n sending) place ∙ sym (drop-drop 2 (length sending - 10) sending) ∙ ap (drop 2) (value_at_end sending mark p ends) ∙ drop-append_seam lane number in
+    sym (ap (from_be_bytes w64) last ∙ from_be_bytes-to_be_bytes_8 mark.number small)
 
 pub left_none : (before : Option (List Left)) → left_with before [] ≡ before
 left_none None = refl

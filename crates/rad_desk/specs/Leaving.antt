@@ -1,10 +1,9 @@
 -- What a ledger is told of what is left (own).
-use Rattle.std.specs.Prelude.{◌≡◌, ℕ, ◌-◌, List, [], ◌∷◌, ◌++◌, length, take, drop, map as each, nat_lt, if◌then◌else◌, Option, Some, None}
+use Rattle.std.specs.Prelude.{ℕ, ◌-◌, List, [], ◌∷◌, ◌++◌, length, take, drop, map as each, nat_lt, if◌then◌else◌, Option, Some, None}
 use Rattle.std.specs.List.{flat_map, range_with_len}
 use Rattle.std.specs.FinMap as map
 use Rattle.rad_packet.specs.Packet.{attribute_octets, packet_text}
 use Rattle.rad_auth.specs.declared.reply.RequestHead.{RequestHead}
-use Rattle.rad_tables.specs.declared.slots.Slot.{Slot}
 use Rattle.rad_tables.specs.Pairs.{Table}
 use Rattle.rad_lane.specs.declared.entry.Entry.{Entry}
 use Rattle.rad_lane.specs.declared.entry.Entry.TheVariants.{Sending as sending, Probe as probe}
@@ -17,8 +16,8 @@ use Rattle.locked_lanes.specs.declared.report.Rest.{Rest}
 use Rattle.locked_lanes.specs.declared.report.Rest.TheVariants.{Known, Unknown}
 use Rattle.locked_lanes.specs.Fates.{marked_number}
 use Rattle.rad_desk.specs.declared.leaving.LeftRecord.{LeftRecord}
-use Rattle.rad_desk.specs.declared.leaving.LeftState.{LeftState}
-use Rattle.rad_desk.specs.declared.leaving.LeftState.TheVariants as state
+use Rattle.rad_lane.specs.declared.leftover.LeftState.{LeftState}
+use Rattle.rad_lane.specs.declared.leftover.LeftState.TheVariants as state
 
 -- A request that is left: its lane, its number there, its client's address and port, its Identifier and Authenticator, the
 -- state in which it is left, and the packet as it came.
@@ -78,15 +77,11 @@ abbrev pub restored : RequestHead → List ℕ → List ℕ
 restored head sent =
     if nat_lt (length sent) 32 then [] else if nat_lt 4096 (length sent) then [] else packet_text 4 head.identifier head.authenticator (take (length sent - 32) (attribute_octets sent))
 
--- The number in the mark at the end of these octets.
-abbrev pub number_sent : List ℕ → ℕ
-number_sent sent = if nat_lt (length sent) 8 then 0 else marked_number sent
-
 -- The request that a response answers.
 abbrev pub untaken_left : ℕ → Outgoing → Left
 untaken_left lane outgoing = record {
   lane = lane;
-  number = number_sent outgoing.reply.sending;
+  number = marked_number outgoing.reply.sending;
   client = outgoing.client;
   port = outgoing.port;
   identifier = outgoing.reply.head.identifier;

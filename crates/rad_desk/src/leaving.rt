@@ -3,29 +3,19 @@
 ghost use Rattle.std.specs.Prelude.{◌≡◌, ◌+◌, ◌-◌, ◌≤◌, ◌++◌, Some, None, MatchOption, option_copied, length, take, drop, map as each};
 ghost use Rattle.std.specs.List.{Contains};
 ghost use Rattle.rad_lane.specs.declared.stamp.Stamp.{Stamp as TheStamp};
-ghost use Rattle.rad_desk.specs.Leaving.{age_at, as_left, left_with, number_sent, outstanding_left, queued_left, recorded_left, restored, untaken_left, left_in, left_under, left_of_pairs, left_of_queue, left_of_rest, left_of_lane, left_of_all};
+ghost use Rattle.locked_lanes.specs.Fates.{marked_number};
+ghost use Rattle.rad_desk.specs.Leaving.{age_at, as_left, left_with, outstanding_left, queued_left, recorded_left, restored, untaken_left, left_in, left_under, left_of_pairs, left_of_queue, left_of_rest, left_of_lane, left_of_all};
 
 use crate::ledger::Ledger;
 use block_queue::Fifo;
 use locked_lanes::{LaneEnd, RecordQueue, Report, Rest};
 use rad_auth::{ACCOUNTING_REQUEST, MARK_LENGTH, Reply};
-use rad_lane::{Entry, Outgoing, Record, Sending};
+use rad_lane::{Entry, LeftState, Outgoing, Record, Sending};
 use rad_packet::{GREATEST_LENGTH, HEADER_LENGTH};
 use rad_tables::{Moment, Slot, Slots};
 
 /// How many source ports a lane may have.
 const PORTS: u16 = 4;
-
-/// The state in which a request is left.
-#[derive(Clone, Copy, Debug, PartialEq, Eq)]
-pub enum LeftState {
-    /// It was never sent.
-    Queued,
-    /// It was sent, and is unanswered.
-    Outstanding,
-    /// It is answered, and nobody took the response.
-    Untaken,
-}
 
 /// A request of a lane that is left.
 #[derive(Clone, Copy)]
@@ -103,7 +93,7 @@ fn tell_responses<L: Ledger>(
     ensures { L.left ledger.new ≡ left_with (L.left ledger.old) (each (untaken_left end.now.lane) responses.now) }
 {
     for outgoing in responses {
-        let number = number_in_mark(outgoing.reply.sending());
+        let number = outgoing.reply.mark().number;
         let age = age_of_number(end, number, now);
         let request = restore(&outgoing.reply, room);
         ledger.leave(&of_outgoing(end.lane, outgoing, number, age, request));
@@ -220,7 +210,7 @@ fn of_outgoing<'a>(
     age: Option<u64>,
     request: &'a [u8],
 ) -> LeftRecord<'a>
-    ensures told { number ≡ number_sent outgoing.now.reply.sending → request.now ≡ restored outgoing.now.reply.head outgoing.now.reply.sending → as_left result ≡ untaken_left lane outgoing.now }
+    ensures told { number ≡ marked_number outgoing.now.reply.sending → request.now ≡ restored outgoing.now.reply.head outgoing.now.reply.sending → as_left result ≡ untaken_left lane outgoing.now }
     ensures sendings { result.sendings ≡ None }
     ensures age { result.age ≡ age }
 {
@@ -259,17 +249,6 @@ fn age_of_number(end: &LaneEnd, number: u64, now: Moment) -> Option<u64>
     } else {
         None
     }
-}
-
-fn number_in_mark(sending: &[u8]) -> u64
-    ensures { result ≡ number_sent sending.now }
-{
-    if sending.len() < 8 {
-        return 0;
-    }
-    let mut octets = [0; 8];
-    octets.copy_from_slice(&sending[sending.len() - 8..]);
-    u64::from_be_bytes(octets)
 }
 
 fn restore<'a>(reply: &Reply, room: &'a mut [u8; GREATEST_LENGTH]) -> &'a [u8]

@@ -14,6 +14,7 @@ pub mod Dues
 pub mod Watch
 pub mod Steps
 pub mod Hears
+pub mod Outgoing
 pub mod Volumes
 pub mod Runs
 pub mod LosesNone

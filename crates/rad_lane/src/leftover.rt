@@ -37,6 +37,17 @@ pub struct LeftoverParts<Q: Fifo<Record>> {
     pub queued: Q,
 }
 
+/// The state in which a request is left.
+#[derive(Clone, Copy, Debug, PartialEq, Eq)]
+pub enum LeftState {
+    /// It was never sent.
+    Queued,
+    /// It was sent, and is unanswered.
+    Outstanding,
+    /// It is answered, and nobody took the response.
+    Untaken,
+}
+
 impl<Q: Fifo<Record>> Model for Leftover<Q> {
     ghost use Rattle.std.specs.Prelude.{◌≤◌, length};
     ghost use Rattle.std.specs.Coded.{codes};

@@ -50,7 +50,7 @@ pub use laws::{
     a_cut_loses_nothing, a_lane_takes_what_leads_to_it, a_port_that_a_lane_lacks_is_unknown,
     without_other_home_a_lane_takes_its_realms,
 };
-pub use leftover::{Leftover, LeftoverParts};
+pub use leftover::{LeftState, Leftover, LeftoverParts};
 pub use outgoing::Outgoing;
 pub use record::Record;
 pub use running::{Event, Given, GivenAnswer, RunFault, run};

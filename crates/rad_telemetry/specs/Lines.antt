@@ -6,8 +6,8 @@ use Rattle.rad_realms.specs.Printed.{address_text}
 use Rattle.rad_metrics.specs.declared.counted.Counted.{Counted}
 use Rattle.rad_metrics.specs.declared.counted.Counted.TheVariants.{Dropped, Refused, Unheard, SendFaults, ReceiveFaults, Cut, Marked}
 use Rattle.rad_metrics.specs.Reasons.{reason_name, up_text}
-use Rattle.rad_desk.specs.declared.leaving.LeftState.{LeftState}
-use Rattle.rad_desk.specs.declared.leaving.LeftState.TheVariants.{Queued, Outstanding, Untaken}
+use Rattle.rad_lane.specs.declared.leftover.LeftState.{LeftState}
+use Rattle.rad_lane.specs.declared.leftover.LeftState.TheVariants.{Queued, Outstanding, Untaken}
 use Rattle.rad_telemetry.specs.declared.lines.Sum.{Sum}
 use Rattle.rad_telemetry.specs.declared.lines.UpLine.{UpLine}
 

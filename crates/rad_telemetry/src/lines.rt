@@ -4,7 +4,8 @@
 ghost use Rattle.std.specs.Prelude.{◌≡◌};
 ghost use Rattle.rad_telemetry.specs.Lines.{event_word, state_text};
 
-use rad_desk::{LeftState, UpReason};
+use rad_desk::UpReason;
+use rad_lane::LeftState;
 use rad_metrics::{Counted, CountedEvent, Reason};
 use rad_realms::{AddressText, Endpoint};
 use std::fmt;

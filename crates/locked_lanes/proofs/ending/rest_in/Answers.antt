@@ -1,7 +1,7 @@
 use Rattle.std.proofs.lemmas.Bool.{false≢true}
 use Rattle.std.proofs.Common.{◌≡◌, ◌∙◌, sym, length, subst, arith, true}
 use Rattle.std.specs.Prelude.{All}
-use Rattle.locked_lanes.specs.Outlet.{InOrder}
+use Rattle.rad_lane.specs.Outgoing.{InOrder}
 use Rattle.locked_lanes.specs.Inlet.{lane_of, taken}
 use Rattle.locked_lanes.specs.Ending.{GoOnFrom, AgreesAmong, IsKnown, IsTheRest}
 use Rattle.locked_lanes.proofs.Rests.{rest_goes_on}

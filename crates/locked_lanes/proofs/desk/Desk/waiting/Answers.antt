@@ -1,5 +1,5 @@
 use Rattle.std.proofs.Common.{length, sym, ap, ◌∙◌, subst}
-use Rattle.locked_lanes.specs.Outlet.{InOrder}
+use Rattle.rad_lane.specs.Outgoing.{InOrder}
 use Rattle.locked_lanes.specs.Fates.{EachOnce}
 use Rattle.locked_lanes.proofs.desk.Desk.waiting.Goals as goal
 

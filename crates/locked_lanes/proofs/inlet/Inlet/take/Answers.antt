@@ -1,6 +1,6 @@
 use Rattle.std.proofs.Common.{[], ◌∷◌, length, sym, ap, ◌∙◌, subst, arith, length-append}
 use Rattle.rtrb.specs.Ring.{received}
-use Rattle.locked_lanes.specs.Outlet.{InOrder}
+use Rattle.rad_lane.specs.Outgoing.{InOrder}
 use Rattle.locked_lanes.specs.Fates.{EachOnce}
 use Rattle.locked_lanes.proofs.Fates.{once_more}
 use Rattle.locked_lanes.proofs.Outlets.{in_order_more}

@@ -22,6 +22,9 @@ ends_with c =
     ∙ part_end octets first end 10 p.first within few in
     EndsWithMark-value _ p.answers.mark c.of_value.result sent (read ∙ value_at_end _ p.answers.mark p.sending_packet sent)
 
+pub returns-clause-packet : goal.returns-clause-packet
+returns-clause-packet c = rw (← c.self.view_is) c.self.invariant.sending_packet
+
 pub returns-clause-ends : goal.returns-clause-ends
 returns-clause-ends c = rw (← c.self.view_is) (ends_with c)
 
