@@ -1,6 +1,6 @@
 -- What two tables of last numbers have together, as numbers are added, as the opening rises, and as the earlier table
 -- is replaced by the recent one.
-use Rattle.std.proofs.Common.{◌≡◌, ℕ, suc, ◌<◌, ◌≤◌, Bool, true, false, cond, inl, inr, List, [], ◌∷◌, ◌++◌, Option, Some, None, refl, sym, ap, ◌∙◌, arith}
+use Rattle.std.proofs.Common.{◌≡◌, ℕ, suc, ◌+◌, ◌<◌, ◌≤◌, Bool, true, false, cond, inl, inr, ◌⊎◌, List, [], ◌∷◌, ◌++◌, length, length-append, Option, Some, None, refl, sym, ap, ◌∙◌, arith}
 use Rattle.std.specs.Prelude.{not, nat_lt}
 use Rattle.std.specs.Ordering.{eq_by_cmp}
 use Rattle.std.specs.FinMap as map
@@ -8,7 +8,7 @@ use Rattle.std.proofs.lemmas.Bool.Decides.{leb_tells}
 use Rattle.rad_tables.specs.declared.duplicates.Key.{Key}
 use Rattle.rad_tables.specs.Keys.{key_cmp}
 use Rattle.rad_tables.proofs.KeyLemmas.{keys_total, exact_keys}
-use Rattle.rad_lane.specs.internal.Keys.{number_since, is_since, option_or, IsBelow, both, merged}
+use Rattle.rad_lane.specs.internal.Keys.{number_since, is_since, option_or, IsBelow, IsSince, AreBounded, both, merged}
 use Rattle.rad_lane.proofs.NumberLemmas.{test_since, test_below}
 
 abbrev Table : Type 0
@@ -122,3 +122,48 @@ none_below end table is key number h =
     let none : map.get table key ≡ None = ap (λ m. map.get m key) is ∙ map.get-empty key_cmp key in
     let clash : None ≡ Some number = sym none ∙ h in
     cc
+
+-- ---- what the tables may hold
+
+pub bounded_empty : AreBounded 0 0 map.empty 0
+bounded_empty = record { held = inr (λ key number is. omega arith); until = omega arith }
+
+-- nothing was added
+pub bounded_still : {X : Type 0} (opening end : ℕ) (recent again : Table) (accepted all : List X) → again ≡ recent → all ≡ accepted → AreBounded opening (opening + length accepted) recent end → AreBounded opening (opening + length all) again end
+bounded_still opening end recent again accepted all same unchanged b = rw (same, unchanged) b
+
+-- a number is added
+opened_by : (b : Bool) (opening given number : ℕ) (old : Option ℕ) → opening ≤ given → (old ≡ Some number → opening ≤ number) → cond b (Some given) old ≡ Some number → opening ≤ number
+opened_by true opening given number old first h is = let same : given ≡ number = cc in omega arith
+opened_by false opening given number old first h is = h is
+
+pub since_more : (numbers : Table) (opening : ℕ) (at : Key) (given : ℕ) → opening ≤ given → IsSince opening numbers → IsSince opening (map.insert numbers at given)
+since_more numbers opening at given first h key number is =
+    opened_by (eq_by_cmp key_cmp key at) opening given number (map.get numbers key) first (h key number) (sym (map.get-insert keys_total numbers at given key) ∙ is)
+
+held_still : (opening end : ℕ) (recent : Table) (key : Key) (number : ℕ) → opening ≤ number → (opening < end) ⊎ IsSince opening recent → (opening < end) ⊎ IsSince opening (map.insert recent key number)
+held_still opening end recent key number from (inl some) = inl some
+held_still opening end recent key number from (inr since) = inr (since_more recent opening key number from since)
+
+pub bounded_more : {X : Type 0} (opening end number : ℕ) (recent more : Table) (key : Key) (accepted all : List X) (x : X) → opening ≤ number → more ≡ map.insert recent key number → all ≡ accepted ++ x ∷ [] → AreBounded opening (opening + length accepted) recent end → AreBounded opening (opening + length all) more end
+bounded_more opening end number recent more key accepted all x from is adds b =
+    rw (is, adds) (record { held = held_still opening end recent key number from b.held; until = omega (arith, b.until, length-append accepted (x ∷ [])) })
+
+-- the opening rises, and the earlier table is replaced once all of its numbers are below
+pub bounded_shed : (opening next end later : ℕ) (recent left : Table) → opening ≤ next → end ≤ next
+    → (end ≤ opening → (left ≡ map.empty) × (later ≡ next))
+    → (opening < end → (left ≡ recent) × (later ≡ end))
+    → AreBounded opening next left later
+bounded_shed opening next end later recent left within until shed kept =
+    elim (leb_tells (suc opening) end) [
+      | inl some ↦
+          let is = kept some.1 in
+          record { held = inl (omega (arith, some.1, is.1)); until = omega (arith, is.1, until) }
+      | inr none ↦
+          let is = shed (omega (arith, none.1)) in
+          let no : IsSince opening left = λ key number there. absurd (none_there key number (sym (ap (λ m. map.get m key) is.0 ∙ map.get-empty key_cmp key) ∙ there)) in
+          record { held = inr no; until = omega (arith, is.1) }
+    ]
+  where
+    none_there : (key : Key) (number : ℕ) → None ≡ Some number → ⊥
+    none_there key number is = cc

@@ -11,6 +11,7 @@ use Rattle.std.proofs.lemmas.List.Quantifiers.{all_pairs_push}
 use Rattle.std.proofs.lemmas.Bool.Decides.{leb_tells}
 use Rattle.rad_tables.specs.declared.duplicates.Key.{Key}
 use Rattle.rad_tables.specs.Keys.{key_cmp}
+use Rattle.rad_lane.proofs.KeysByAge.{since_more}
 use Rattle.rad_tables.specs.Pairs.{Table}
 use Rattle.rad_tables.proofs.KeyLemmas.{keys_total}
 use Rattle.rad_realms.specs.Checking.{Request}
@@ -64,14 +65,6 @@ numbers_more numbers stamps stamp h key =
     ∙ ap (λ o. cond (eq_by_cmp key_cmp key (key_of stamp)) (Some stamp.number) o) (h key)
     ∙ ap (λ b. cond b (Some stamp.number) (last_number key stamps)) ((eq_by_cmp_equiv keys_total).symm key (key_of stamp))
     ∙ sym (last_number_more key stamps stamp)
-
-opened_by : (b : Bool) (opening given number : ℕ) (old : Option ℕ) → opening ≤ given → (old ≡ Some number → opening ≤ number) → cond b (Some given) old ≡ Some number → opening ≤ number
-opened_by true opening given number old first h is = let same : given ≡ number = cc in omega arith
-opened_by false opening given number old first h is = h is
-
-since_more : (numbers : map.FinMap key_cmp ℕ) (opening : ℕ) (at : Key) (given : ℕ) → opening ≤ given → ((key : Key) (number : ℕ) → map.get numbers key ≡ Some number → opening ≤ number) → (key : Key) (number : ℕ) → map.get (map.insert numbers at given) key ≡ Some number → opening ≤ number
-since_more numbers opening at given first h key number is =
-    opened_by (eq_by_cmp key_cmp key at) opening given number (map.get numbers key) first (h key number) (sym (map.get-insert keys_total numbers at given key) ∙ is)
 
 module _ (book : Book) (request : Request) (now : ℕ) (later : book.last ≤ now) (taken : IsTaken book request) (new : repeats book (request_key request) now ≡ fresh) (free : IsRefused book request OutOfMemory) (is_record : IsRecord (record_of (next_number book) request now)) where
   accepted_lawful : IsLawful book → IsLawful (with_request book request now)

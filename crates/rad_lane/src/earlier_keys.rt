@@ -1,4 +1,4 @@
-ghost use Rattle.std.specs.Prelude.{◌≡◌};
+ghost use Rattle.std.specs.Prelude.{◌≡◌, nat_le};
 ghost use Rattle.std.specs.Bool.{OnTrue};
 ghost use Rattle.std.specs.FinMap as map;
 ghost use Rattle.rad_lane.specs.internal.Keys.{IsBelow, number_since, option_or};
@@ -12,14 +12,15 @@ use std::alloc::Global;
 pub(crate) struct EarlierKeys {
     pub(crate) numbers: Duplicates,
     /// A number above all of these.
-    end: u64,
+    pub(crate) end: u64,
     ghost below: { IsBelow end numbers },
 }
 
 impl EarlierKeys {
     /// Makes a table without keys. It takes no memory.
     pub(crate) fn new(alloc: Global) -> EarlierKeys
-        ensures { result.numbers ≡ map.empty }
+        ensures numbers { result.numbers ≡ map.empty }
+        ensures end { result.end ≡ 0 }
     {
         EarlierKeys {
             numbers: Duplicates::new(alloc),
@@ -30,14 +31,16 @@ impl EarlierKeys {
     /// Makes the table of these numbers, all of which are below `end`.
     pub(crate) fn over(numbers: Duplicates, end: u64) -> EarlierKeys
         requires { IsBelow end numbers }
-        ensures { result.numbers ≡ numbers }
+        ensures numbers { result.numbers ≡ numbers }
+        ensures end { result.end ≡ end }
     {
         EarlierKeys { numbers, end }
     }
 
     /// Returns whether all numbers are known to be below a number.
     pub(crate) fn is_below(&self, number: u64) -> bool
-        ensures { OnTrue result (IsBelow number self.now.numbers) }
+        ensures value { result ≡ nat_le self.now.end number }
+        ensures below { OnTrue result (IsBelow number self.now.numbers) }
     {
         self.end <= number
     }

@@ -72,12 +72,11 @@ impl<Q: Fifo<Record>> Model for Lane<Q> {
 
     ghost coded = { Prim.hlevel (codes, map.code {R = slot_cmp} coded_slot entry.the_row.coded) };
 
-    ghost use Rattle.rad_lane.specs.internal.Invariant.{book_of, IsConsistent};
-    ghost use Rattle.rad_lane.specs.internal.Keys.{merged};
+    ghost use Rattle.rad_lane.specs.internal.Invariant.{book_of, Stands};
 
     ghost view = { λ l. book_of l.setup l.opening l.accepted.items (Q.items l.queued) l.answered.items l.served l.slots l.drain l.watch l.last };
 
-    ghost invariant = { λ l. IsConsistent (book_of l.setup l.opening l.accepted.items (Q.items l.queued) l.answered.items l.served l.slots l.drain l.watch l.last) (Q.items l.queued) l.slots.ports (merged l.opening l.recent l.earlier.numbers) l.indices.items l.outstanding };
+    ghost invariant = { λ l. Stands (book_of l.setup l.opening l.accepted.items (Q.items l.queued) l.answered.items l.served l.slots l.drain l.watch l.last) (Q.items l.queued) l.slots.ports l.recent l.earlier.numbers l.earlier.end l.indices.items l.outstanding };
 }
 
 /// Why no lane is made.

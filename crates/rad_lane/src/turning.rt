@@ -2,6 +2,7 @@
 
 ghost use Rattle.std.specs.Prelude.{◌≡◌, ◌<◌, ◌≤◌, [], ℕ, ◌++◌, All, map as each, Option, length, take, drop, slice_index_or, IfOk, OnErr};
 ghost use Rattle.std.specs.Bool.{OnTrue, OnFalse};
+ghost use Rattle.std.specs.FinMap as map;
 ghost use Rattle.std.specs.List.Sorted.{IsPermutation};
 ghost use Rattle.rad_tables.specs.declared.duplicates.Key.{Key as the_key};
 ghost use Rattle.rad_lane.specs.declared.answered.AnswerIndex.{AnswerIndex as the_answer_index};
@@ -188,7 +189,9 @@ fn shed(
     next: u64,
 ) -> Option<EarlierKeys>
     requires { IsBelow next recent.old }
-    ensures { (since : ℕ) → opening ≤ since → merged since recent.new earlier.new.numbers ≡ merged since recent.old earlier.old.numbers }
+    ensures merged { (since : ℕ) → opening ≤ since → merged since recent.new earlier.new.numbers ≡ merged since recent.old earlier.old.numbers }
+    ensures shed { earlier.old.end ≤ opening → (recent.new ≡ map.empty) × (earlier.new.end ≡ next) }
+    ensures kept { opening < earlier.old.end → (recent.new ≡ recent.old) × (earlier.new.end ≡ earlier.old.end) }
 {
     if !earlier.is_below(opening) {
         return None;

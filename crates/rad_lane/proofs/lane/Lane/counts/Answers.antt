@@ -13,7 +13,7 @@ returns-clause-counts g c =
       | in_default w ↦ w.matches-is ∙ ap (λ watch. is_up watch) (sym w.in_default.is)
     ]
     in
-    counts_seen _ _ c.self.view_is _ refl c.next_number.result c.len.result c.self.inside.outstanding c.match-matches.matches c.is_draining.result c.next_number.ensures.value c.len.ensures c.self.invariant.counted marked c.is_draining.ensures
+    counts_seen _ _ c.self.view_is _ refl c.next_number.result c.len.result c.self.inside.outstanding c.match-matches.matches c.is_draining.result c.next_number.ensures.value c.len.ensures c.self.invariant.consistent.counted marked c.is_draining.ensures
 
 pub returns-clause-lawful : goal.returns-clause-lawful
-returns-clause-lawful g c = subst (λ (b : Book). IsLawful b) c.self.view_is c.self.invariant.lawful
+returns-clause-lawful g c = subst (λ (b : Book). IsLawful b) c.self.view_is c.self.invariant.consistent.lawful

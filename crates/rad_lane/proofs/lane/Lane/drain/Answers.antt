@@ -4,8 +4,11 @@ use Rattle.rad_lane.proofs.LawfulAfterDrain.{stands_drained_by}
 use Rattle.rad_lane.proofs.lane.Lane.drain.Goals as goal
 
 pub invariant_of-self : goal.invariant_of-self
-invariant_of-self g c =
-    stands_drained_by _ _ _ _ _ _ _ _ c.self.view_is c.drained_at-count.ensures c.self.invariant
+invariant_of-self g c = record {
+  consistent =
+      stands_drained_by _ _ _ _ _ _ _ _ c.self.view_is c.drained_at-count.ensures c.self.invariant.consistent;
+  bounded = c.self.invariant.bounded;
+}
 
 pub returns : goal.returns
 returns g c = record {

@@ -37,17 +37,17 @@ returns-else-not-check_response g c = λ moment datagram at read.
 
 pub answer-requires-clause-since : goal.answer-requires-clause-since
 answer-requires-clause-since g c =
-    let o = is_outstanding _ _ c.self.view_is c.self.invariant.lawful c.args.slot c.in-Some-Sending.sending (there_by _ _ _ c.in-Some-Sending.ensures.value c.in-Some-Sending.field-0-is) in
+    let o = is_outstanding _ _ c.self.view_is c.self.invariant.consistent.lawful c.args.slot c.in-Some-Sending.sending (there_by _ _ _ c.in-Some-Sending.ensures.value c.in-Some-Sending.field-0-is) in
     passed_by _ _ _ o.passed c.requires.later
 
 pub answer-requires-clause-identifier : goal.answer-requires-clause-identifier
 answer-requires-clause-identifier g c =
-    let o = is_outstanding _ _ c.self.view_is c.self.invariant.lawful c.args.slot c.in-Some-Sending.sending (there_by _ _ _ c.in-Some-Sending.ensures.value c.in-Some-Sending.field-0-is) in
+    let o = is_outstanding _ _ c.self.view_is c.self.invariant.consistent.lawful c.args.slot c.in-Some-Sending.sending (there_by _ _ _ c.in-Some-Sending.ensures.value c.in-Some-Sending.field-0-is) in
     sym c.requires.identifier ∙ sym o.identifier
 
 pub returns-in_err-answer-in-Some-Sending : goal.returns-in_err-answer-in-Some-Sending
 returns-in_err-answer-in-Some-Sending g c = λ moment datagram at read.
-    let o = is_outstanding _ _ c.self.view_is c.self.invariant.lawful c.args.slot c.in-Some-Sending.sending (there_by _ _ _ c.in-Some-Sending.ensures.value c.in-Some-Sending.field-0-is) in
+    let o = is_outstanding _ _ c.self.view_is c.self.invariant.consistent.lawful c.args.slot c.in-Some-Sending.sending (there_by _ _ _ c.in-Some-Sending.ensures.value c.in-Some-Sending.field-0-is) in
     hears_fault _ _ _ _ _ _ _ c.from_residual.result
     (refused_answer c.args.self.now c.args.slot.port datagram c.args.packet.now read c.requires.code c.args.slot (pair_is c.args.slot c.args.packet.now c.requires.identifier) _ o.there _ o.home _ c.in_err-answer-in-Some-Sending.ensures.err)
     refl refl c.from_residual.ensures
@@ -57,14 +57,14 @@ keep_answer-requires-clause-later g c = c.requires.later
 
 pub keep_answer-requires-clause-answers : goal.keep_answer-requires-clause-answers
 keep_answer-requires-clause-answers g c =
-    let o = is_outstanding _ _ c.self.view_is c.self.invariant.lawful c.args.slot c.in-Some-Sending.sending (there_by _ _ _ c.in-Some-Sending.ensures.value c.in-Some-Sending.field-0-is) in
+    let o = is_outstanding _ _ c.self.view_is c.self.invariant.consistent.lawful c.args.slot c.in-Some-Sending.sending (there_by _ _ _ c.in-Some-Sending.ensures.value c.in-Some-Sending.field-0-is) in
     let served = ap (λ (b : Book). b.served) c.self.view_is in
     let keeps = answers_sending _ c.args.slot c.in-Some-Sending.sending o _ _ _ _ served c.in_ok-answer-in-Some-Sending.ensures.kept in
     record { entry = c.in-Some-Sending.sending; there = o.there; packet = c.args.packet.now; keeps = keeps }
 
 pub returns-in_err-keep_answer-in-Some-Sending : goal.returns-in_err-keep_answer-in-Some-Sending
 returns-in_err-keep_answer-in-Some-Sending g c = λ moment datagram at read.
-    let o = is_outstanding _ _ c.self.view_is c.self.invariant.lawful c.args.slot c.in-Some-Sending.sending (there_by _ _ _ c.in-Some-Sending.ensures.value c.in-Some-Sending.field-0-is) in
+    let o = is_outstanding _ _ c.self.view_is c.self.invariant.consistent.lawful c.args.slot c.in-Some-Sending.sending (there_by _ _ _ c.in-Some-Sending.ensures.value c.in-Some-Sending.field-0-is) in
     let served = ap (λ (b : Book). b.served) c.self.view_is in
     let keeps = answers_sending _ c.args.slot c.in-Some-Sending.sending o _ _ _ _ served c.in_ok-answer-in-Some-Sending.ensures.kept in
     hears_fault _ _ _ _ _ _ _ c.from_residual-in_err-keep_answer-in-Some-Sending.result
@@ -77,7 +77,7 @@ go_up_if_down-requires-in-Some-Sending g c = record { later = at_last c.keep_ans
 
 pub returns-in_ok-keep_answer-in-Some-Sending : goal.returns-in_ok-keep_answer-in-Some-Sending
 returns-in_ok-keep_answer-in-Some-Sending g c = λ moment datagram at read.
-    let o = is_outstanding _ _ c.self.view_is c.self.invariant.lawful c.args.slot c.in-Some-Sending.sending (there_by _ _ _ c.in-Some-Sending.ensures.value c.in-Some-Sending.field-0-is) in
+    let o = is_outstanding _ _ c.self.view_is c.self.invariant.consistent.lawful c.args.slot c.in-Some-Sending.sending (there_by _ _ _ c.in-Some-Sending.ensures.value c.in-Some-Sending.field-0-is) in
     let served = ap (λ (b : Book). b.served) c.self.view_is in
     let keeps = answers_sending _ c.args.slot c.in-Some-Sending.sending o _ _ _ _ served c.in_ok-answer-in-Some-Sending.ensures.kept in (
       c.in_ok-answer-in-Some-Sending.answer,

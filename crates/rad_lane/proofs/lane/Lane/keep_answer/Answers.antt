@@ -6,28 +6,36 @@ use Rattle.rad_lane.proofs.lane.Lane.keep_answer.Goals as goal
 
 -- where memory is refused, nothing changes
 pub invariant_of-self : goal.invariant_of-self
-invariant_of-self g c = stands_unchanged c.self.inside.setup c.self.inside.opening c.self.inside.accepted.items (g.Q.Fifo.items c.self.inside.queued) c.self.inside.answered.items c.self.inside.served c.self.inside.slots c.self.inside.drain c.self.inside.watch c.self.inside.last c.args.self.now c.self.view_is c.self.inside.slots.ports (merged c.self.inside.opening c.self.inside.recent c.self.inside.earlier.numbers) c.self.inside.indices.items c.self.inside.outstanding c.self.invariant _ c.reserve_one.ensures.items
+invariant_of-self g c = record {
+  consistent =
+      stands_unchanged c.self.inside.setup c.self.inside.opening c.self.inside.accepted.items (g.Q.Fifo.items c.self.inside.queued) c.self.inside.answered.items c.self.inside.served c.self.inside.slots c.self.inside.drain c.self.inside.watch c.self.inside.last c.args.self.now c.self.view_is c.self.inside.slots.ports (merged c.self.inside.opening c.self.inside.recent c.self.inside.earlier.numbers) c.self.inside.indices.items c.self.inside.outstanding c.self.invariant.consistent _ c.reserve_one.ensures.items;
+  bounded = c.self.invariant.bounded;
+}
 
 pub returns-in_default-clause-err : goal.returns-in_default-clause-err
-returns-in_default-clause-err g c = (refl, seen_unchanged c.self.inside.setup c.self.inside.opening c.self.inside.accepted.items (g.Q.Fifo.items c.self.inside.queued) c.self.inside.answered.items c.self.inside.served c.self.inside.slots c.self.inside.drain c.self.inside.watch c.self.inside.last c.args.self.now c.self.view_is c.self.inside.slots.ports (merged c.self.inside.opening c.self.inside.recent c.self.inside.earlier.numbers) c.self.inside.indices.items c.self.inside.outstanding c.self.invariant _ c.reserve_one.ensures.items)
+returns-in_default-clause-err g c = (refl, seen_unchanged c.self.inside.setup c.self.inside.opening c.self.inside.accepted.items (g.Q.Fifo.items c.self.inside.queued) c.self.inside.answered.items c.self.inside.served c.self.inside.slots c.self.inside.drain c.self.inside.watch c.self.inside.last c.args.self.now c.self.view_is c.self.inside.slots.ports (merged c.self.inside.opening c.self.inside.recent c.self.inside.earlier.numbers) c.self.inside.indices.items c.self.inside.outstanding c.self.invariant.consistent _ c.reserve_one.ensures.items)
 
 pub overflow_sub-place : goal.overflow_sub-place
-overflow_sub-place g c = since_the_opening c.self.inside.setup c.self.inside.opening c.self.inside.accepted.items (g.Q.Fifo.items c.self.inside.queued) c.self.inside.answered.items c.self.inside.served c.self.inside.slots c.self.inside.drain c.self.inside.watch c.self.inside.last c.args.self.now c.self.view_is c.self.inside.slots.ports (merged c.self.inside.opening c.self.inside.recent c.self.inside.earlier.numbers) c.self.inside.indices.items c.self.inside.outstanding c.self.invariant c.args.now c.args.slot c.args.answer c.requires.answers c.stamp.result c.stamp.ensures.value
+overflow_sub-place g c = since_the_opening c.self.inside.setup c.self.inside.opening c.self.inside.accepted.items (g.Q.Fifo.items c.self.inside.queued) c.self.inside.answered.items c.self.inside.served c.self.inside.slots c.self.inside.drain c.self.inside.watch c.self.inside.last c.args.self.now c.self.view_is c.self.inside.slots.ports (merged c.self.inside.opening c.self.inside.recent c.self.inside.earlier.numbers) c.self.inside.indices.items c.self.inside.outstanding c.self.invariant.consistent c.args.now c.args.slot c.args.answer c.requires.answers c.stamp.result c.stamp.ensures.value
 
 pub set-requires : goal.set-requires
-set-requires g c = place_within c.self.inside.setup c.self.inside.opening c.self.inside.accepted.items (g.Q.Fifo.items c.self.inside.queued) c.self.inside.answered.items c.self.inside.served c.self.inside.slots c.self.inside.drain c.self.inside.watch c.self.inside.last c.args.self.now c.self.view_is c.self.inside.slots.ports (merged c.self.inside.opening c.self.inside.recent c.self.inside.earlier.numbers) c.self.inside.indices.items c.self.inside.outstanding c.self.invariant c.args.now c.args.slot c.args.answer c.requires.answers c.stamp.result c.stamp.ensures.value
+set-requires g c = place_within c.self.inside.setup c.self.inside.opening c.self.inside.accepted.items (g.Q.Fifo.items c.self.inside.queued) c.self.inside.answered.items c.self.inside.served c.self.inside.slots c.self.inside.drain c.self.inside.watch c.self.inside.last c.args.self.now c.self.view_is c.self.inside.slots.ports (merged c.self.inside.opening c.self.inside.recent c.self.inside.earlier.numbers) c.self.inside.indices.items c.self.inside.outstanding c.self.invariant.consistent c.args.now c.args.slot c.args.answer c.requires.answers c.stamp.result c.stamp.ensures.value
 
 pub push-requires : goal.push-requires
 push-requires g c = c.in-Ok.ensures.ok
 
 pub overflow_add-self : goal.overflow_add-self
-overflow_add-self g c = served_fits c.self.inside.setup c.self.inside.opening c.self.inside.accepted.items (g.Q.Fifo.items c.self.inside.queued) c.self.inside.answered.items c.self.inside.served c.self.inside.slots c.self.inside.drain c.self.inside.watch c.self.inside.last c.args.self.now c.self.view_is c.self.inside.slots.ports (merged c.self.inside.opening c.self.inside.recent c.self.inside.earlier.numbers) c.self.inside.indices.items c.self.inside.outstanding c.self.invariant
+overflow_add-self g c = served_fits c.self.inside.setup c.self.inside.opening c.self.inside.accepted.items (g.Q.Fifo.items c.self.inside.queued) c.self.inside.answered.items c.self.inside.served c.self.inside.slots c.self.inside.drain c.self.inside.watch c.self.inside.last c.args.self.now c.self.view_is c.self.inside.slots.ports (merged c.self.inside.opening c.self.inside.recent c.self.inside.earlier.numbers) c.self.inside.indices.items c.self.inside.outstanding c.self.invariant.consistent
 
 pub overflow_sub-self : goal.overflow_sub-self
-overflow_sub-self g c = one_outstanding c.self.inside.setup c.self.inside.opening c.self.inside.accepted.items (g.Q.Fifo.items c.self.inside.queued) c.self.inside.answered.items c.self.inside.served c.self.inside.slots c.self.inside.drain c.self.inside.watch c.self.inside.last c.args.self.now c.self.view_is c.self.inside.slots.ports (merged c.self.inside.opening c.self.inside.recent c.self.inside.earlier.numbers) c.self.inside.indices.items c.self.inside.outstanding c.self.invariant c.args.now c.args.slot c.args.answer c.requires.answers
+overflow_sub-self g c = one_outstanding c.self.inside.setup c.self.inside.opening c.self.inside.accepted.items (g.Q.Fifo.items c.self.inside.queued) c.self.inside.answered.items c.self.inside.served c.self.inside.slots c.self.inside.drain c.self.inside.watch c.self.inside.last c.args.self.now c.self.view_is c.self.inside.slots.ports (merged c.self.inside.opening c.self.inside.recent c.self.inside.earlier.numbers) c.self.inside.indices.items c.self.inside.outstanding c.self.invariant.consistent c.args.now c.args.slot c.args.answer c.requires.answers
 
 pub invariant_of-self-2 : goal.invariant_of-self-2
-invariant_of-self-2 g c = stands_kept c.self.inside.setup c.self.inside.opening c.self.inside.accepted.items (g.Q.Fifo.items c.self.inside.queued) c.self.inside.answered.items c.self.inside.served c.self.inside.slots c.self.inside.drain c.self.inside.watch c.self.inside.last c.args.self.now c.self.view_is c.self.inside.slots.ports (merged c.self.inside.opening c.self.inside.recent c.self.inside.earlier.numbers) c.self.inside.indices.items c.self.inside.outstanding c.self.invariant c.args.now c.args.slot c.args.answer c.requires.answers c.stamp.result c.stamp.ensures.value c.requires.later c.push.new.self.items (c.push.ensures ∙ ap (λ (xs : List AnswerKept). xs ++ c.args.answer ∷ []) c.reserve_one.ensures.items) c.free.new.slots c.free.ensures c.set.new.self.items c.set.ensures refl
+invariant_of-self-2 g c = record {
+  consistent =
+      stands_kept c.self.inside.setup c.self.inside.opening c.self.inside.accepted.items (g.Q.Fifo.items c.self.inside.queued) c.self.inside.answered.items c.self.inside.served c.self.inside.slots c.self.inside.drain c.self.inside.watch c.self.inside.last c.args.self.now c.self.view_is c.self.inside.slots.ports (merged c.self.inside.opening c.self.inside.recent c.self.inside.earlier.numbers) c.self.inside.indices.items c.self.inside.outstanding c.self.invariant.consistent c.args.now c.args.slot c.args.answer c.requires.answers c.stamp.result c.stamp.ensures.value c.requires.later c.push.new.self.items (c.push.ensures ∙ ap (λ (xs : List AnswerKept). xs ++ c.args.answer ∷ []) c.reserve_one.ensures.items) c.free.new.slots c.free.ensures c.set.new.self.items c.set.ensures refl;
+  bounded = c.self.invariant.bounded;
+}
 
 pub returns-clause-ok : goal.returns-clause-ok
-returns-clause-ok g c = kept_seen c.self.inside.setup c.self.inside.opening c.self.inside.accepted.items (g.Q.Fifo.items c.self.inside.queued) c.self.inside.answered.items c.self.inside.served c.self.inside.slots c.self.inside.drain c.self.inside.watch c.self.inside.last c.args.self.now c.self.view_is c.self.inside.slots.ports (merged c.self.inside.opening c.self.inside.recent c.self.inside.earlier.numbers) c.self.inside.indices.items c.self.inside.outstanding c.self.invariant c.args.now c.args.slot c.args.answer c.requires.answers c.stamp.result c.stamp.ensures.value c.requires.later c.push.new.self.items (c.push.ensures ∙ ap (λ (xs : List AnswerKept). xs ++ c.args.answer ∷ []) c.reserve_one.ensures.items) c.free.new.slots c.free.ensures
+returns-clause-ok g c = kept_seen c.self.inside.setup c.self.inside.opening c.self.inside.accepted.items (g.Q.Fifo.items c.self.inside.queued) c.self.inside.answered.items c.self.inside.served c.self.inside.slots c.self.inside.drain c.self.inside.watch c.self.inside.last c.args.self.now c.self.view_is c.self.inside.slots.ports (merged c.self.inside.opening c.self.inside.recent c.self.inside.earlier.numbers) c.self.inside.indices.items c.self.inside.outstanding c.self.invariant.consistent c.args.now c.args.slot c.args.answer c.requires.answers c.stamp.result c.stamp.ensures.value c.requires.later c.push.new.self.items (c.push.ensures ∙ ap (λ (xs : List AnswerKept). xs ++ c.args.answer ∷ []) c.reserve_one.ensures.items) c.free.new.slots c.free.ensures

@@ -4,10 +4,10 @@ use Rattle.rad_lane.proofs.lane.Lane.next_due.Goals as goal
 
 pub returns-then-first-get : goal.returns-then-first-get
 returns-then-first-get g c =
-    next_seen _ _ c.self.view_is c.requires c.self.invariant.lawful.probe_apart _ _ _ c.in-Some.ensures
+    next_seen _ _ c.self.view_is c.requires c.self.invariant.consistent.lawful.probe_apart _ _ _ c.in-Some.ensures
     (omega (arith, c.if-first-get.true, c.get.ensures.value))
 
 pub returns-else-first-get : goal.returns-else-first-get
 returns-else-first-get g c =
-    least_seen _ _ c.self.view_is c.requires c.self.invariant.lawful.probe_apart _ _ _ c.in-Some.ensures
+    least_seen _ _ c.self.view_is c.requires c.self.invariant.consistent.lawful.probe_apart _ _ _ c.in-Some.ensures
     (omega (arith, c.if-first-get.false, c.get.ensures.value))

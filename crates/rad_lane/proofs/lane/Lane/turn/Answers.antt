@@ -13,7 +13,7 @@ pub cut-requires-clause-is_cut : goal.cut-requires-clause-is_cut
 cut-requires-clause-is_cut g c =
     let span = ap (λ (n : LimitNumbers). n.span) (c.numbers-span.ensures.value ∙ c.limits.ensures.value) in
     let found = c.count_over-count.ensures in
-    cut_is _ _ c.self.view_is _ _ _ _ _ c.self.invariant _ c.as_slice.ensures _ span c.moment_of-now.result c.count_over-count.result found.within found.over found.longest
+    cut_is _ _ c.self.view_is _ _ _ _ _ c.self.invariant.consistent _ c.as_slice.ensures _ span c.moment_of-now.result c.count_over-count.result found.within found.over found.longest
 
 pub returns-in-Ok-clause-turns : goal.returns-in-Ok-clause-turns
 returns-in-Ok-clause-turns g c =
@@ -22,8 +22,8 @@ returns-in-Ok-clause-turns g c =
     rw (← c.moment_of-now.ensures.value) (
       take c.count_over-count.result c.args.self.now.accepted,
       drop c.count_over-count.result c.args.self.now.accepted,
-      cut_is _ _ c.self.view_is _ _ _ _ _ c.self.invariant _ c.as_slice.ensures _ span c.moment_of-now.result c.count_over-count.result found.within found.over found.longest,
-      cut_some _ _ c.self.view_is _ _ _ _ _ c.self.invariant _ c.as_slice.ensures _ span c.moment_of-now.result c.count_over-count.result found.within found.over found.longest c.if-count-eq0.false,
+      cut_is _ _ c.self.view_is _ _ _ _ _ c.self.invariant.consistent _ c.as_slice.ensures _ span c.moment_of-now.result c.count_over-count.result found.within found.over found.longest,
+      cut_some _ _ c.self.view_is _ _ _ _ _ c.self.invariant.consistent _ c.as_slice.ensures _ span c.moment_of-now.result c.count_over-count.result found.within found.over found.longest c.if-count-eq0.false,
       c.in-Ok.ensures.ok.0,
       c.in-Ok.ensures.ok.1,
     )
@@ -32,8 +32,8 @@ pub returns-in-Ok-clause-answered_once : goal.returns-in-Ok-clause-answered_once
 returns-in-Ok-clause-answered_once g c =
     let span = ap (λ (n : LimitNumbers). n.span) (c.numbers-span.ensures.value ∙ c.limits.ensures.value) in
     let found = c.count_over-count.ensures in
-    volume_answered _ _ c.self.view_is c.self.invariant.lawful _ c.moment_of-now.ensures.later _ _
-    (cut_is _ _ c.self.view_is _ _ _ _ _ c.self.invariant _ c.as_slice.ensures _ span c.moment_of-now.result c.count_over-count.result found.within found.over found.longest)
+    volume_answered _ _ c.self.view_is c.self.invariant.consistent.lawful _ c.moment_of-now.ensures.later _ _
+    (cut_is _ _ c.self.view_is _ _ _ _ _ c.self.invariant.consistent _ c.as_slice.ensures _ span c.moment_of-now.result c.count_over-count.result found.within found.over found.longest)
     _ _ c.in-Ok.ensures.ok.0 c.in-Ok.ensures.ok.1
 
 pub returns-in-Ok-clause-repeats : goal.returns-in-Ok-clause-repeats
@@ -41,8 +41,8 @@ returns-in-Ok-clause-repeats g c =
     let span = ap (λ (n : LimitNumbers). n.span) (c.numbers-span.ensures.value ∙ c.limits.ensures.value) in
     let found = c.count_over-count.ensures in
     rw (← c.moment_of-now.ensures.value)
-    (volume_repeats _ _ c.self.view_is c.self.invariant.lawful _ c.moment_of-now.ensures.later _ _
-    (cut_is _ _ c.self.view_is _ _ _ _ _ c.self.invariant _ c.as_slice.ensures _ span c.moment_of-now.result c.count_over-count.result found.within found.over found.longest)
+    (volume_repeats _ _ c.self.view_is c.self.invariant.consistent.lawful _ c.moment_of-now.ensures.later _ _
+    (cut_is _ _ c.self.view_is _ _ _ _ _ c.self.invariant.consistent _ c.as_slice.ensures _ span c.moment_of-now.result c.count_over-count.result found.within found.over found.longest)
     _ _ c.in-Ok.ensures.ok.0 c.in-Ok.ensures.ok.1)
 
 pub returns-in-Err-clause-turns : goal.returns-in-Err-clause-turns
@@ -52,8 +52,8 @@ returns-in-Err-clause-turns g c =
     rw (← c.moment_of-now.ensures.value) (
       take c.count_over-count.result c.args.self.now.accepted,
       drop c.count_over-count.result c.args.self.now.accepted,
-      cut_is _ _ c.self.view_is _ _ _ _ _ c.self.invariant _ c.as_slice.ensures _ span c.moment_of-now.result c.count_over-count.result found.within found.over found.longest,
-      cut_some _ _ c.self.view_is _ _ _ _ _ c.self.invariant _ c.as_slice.ensures _ span c.moment_of-now.result c.count_over-count.result found.within found.over found.longest c.if-count-eq0.false,
+      cut_is _ _ c.self.view_is _ _ _ _ _ c.self.invariant.consistent _ c.as_slice.ensures _ span c.moment_of-now.result c.count_over-count.result found.within found.over found.longest,
+      cut_some _ _ c.self.view_is _ _ _ _ _ c.self.invariant.consistent _ c.as_slice.ensures _ span c.moment_of-now.result c.count_over-count.result found.within found.over found.longest c.if-count-eq0.false,
       c.in-Err.ensures.err,
     )
 
@@ -62,7 +62,7 @@ returns-then-count-eq0-clause-turns g c =
     let span = ap (λ (n : LimitNumbers). n.span) (c.numbers-span.ensures.value ∙ c.limits.ensures.value) in
     let found = c.count_over-count.ensures in (
       subst (λ m. BeginsUnended c.args.self.now m c.args.self.now.accepted) c.moment_of-now.ensures.value
-          (none_over _ _ c.self.view_is _ _ _ _ _ c.self.invariant _ c.as_slice.ensures _ span c.moment_of-now.result c.count_over-count.result found.within found.over found.longest c.if-count-eq0.true),
+          (none_over _ _ c.self.view_is _ _ _ _ _ c.self.invariant.consistent _ c.as_slice.ensures _ span c.moment_of-now.result c.count_over-count.result found.within found.over found.longest c.if-count-eq0.true),
       refl,
     )
 
@@ -76,7 +76,7 @@ pub cut-requires-clause-within : goal.cut-requires-clause-within
 cut-requires-clause-within g c =
     let span = ap (λ (n : LimitNumbers). n.span) (c.numbers-span.ensures.value ∙ c.limits.ensures.value) in
     let found = c.count_over-count.ensures in
-    cut_within _ _ c.self.view_is _ _ _ _ _ c.self.invariant _ c.as_slice.ensures _ span c.moment_of-now.result c.count_over-count.result found.within found.over found.longest
+    cut_within _ _ c.self.view_is _ _ _ _ _ c.self.invariant.consistent _ c.as_slice.ensures _ span c.moment_of-now.result c.count_over-count.result found.within found.over found.longest
 
 pub returns-in-Ok-clause-joined : goal.returns-in-Ok-clause-joined
 returns-in-Ok-clause-joined g c =
