@@ -1,4 +1,4 @@
-use Rattle.std.proofs.Common.{sym, option_map}
+use Rattle.std.proofs.Common.{◌∙◌, ap, sym, Ok, option_map}
 use Rattle.std.proofs.lemmas.Result.{err_from_is_err_and}
 use Rattle.toml.specs.View.{table_view}
 use Rattle.rad_config.specs.Walk.{walk}
@@ -12,7 +12,7 @@ invariant_of-config c = read_well (table_view c.args.doc.now) _ (record {
   other_home = option_map (λ s. s.now) c.in_ok-other_home.other_home;
   clients = c.in_ok-clients.ensures;
   homes = c.in_ok-homes.ensures;
-  realms = c.in_ok-realms.ensures;
+  realms = c.in_ok-realms.ensures ∙ ap Ok (sym c.in_ok-realms-2.ensures.ok);
   default_lane = sym c.in_ok-default_lane.ensures;
   other_lane = sym c.in_ok-other_lane.ensures;
 })
