@@ -1,17 +1,16 @@
 -- Without the key `other_home` all is what it was before there was this key.
-use Rattle.std.proofs.Common.{◌≡◌, ℕ, ◌==◌, List, [], ◌∷◌, ◌++◌, length, Option, Some, None, option_map, option_to_list, Result, Ok, refl, ap, subst, ◌∙◌, inl, inr, append_assoc}
+use Rattle.std.proofs.Common.{◌≡◌, ℕ, ◌==◌, List, [], ◌++◌, length, Option, Some, None, option_map, option_to_list, Ok, refl, ap, subst, ◌∙◌, inl, inr, append_assoc}
 use Rattle.std.specs.Result.{result_err}
 use Rattle.std.proofs.lemmas.Bool.{cases_Bool}
 use Rattle.std.proofs.lemmas.List.{append-nil}
 use Rattle.toml.specs.Data.{Members, get_member}
-use Rattle.rad_config.specs.declared.reading.faults.Part.TheVariants as part
 use Rattle.rad_config.specs.declared.reading.faults.Key.TheVariants.{DefaultHome, OtherHome}
 use Rattle.rad_config.specs.declared.reading.faults.ConfigFault.{ConfigFault}
 use Rattle.rad_config.specs.Configuration.{RealmEntry, Configuration}
 use Rattle.rad_config.specs.Spot.{key_name}
 use Rattle.rad_config.specs.Realm.{or_else, row_of, lane_in, lane_by, IsRank}
-use Rattle.rad_config.specs.Walk.{◌>>=◌, spot, optional_text_at, listen_in, home_name_in, linger_in, clients_in, homes_in, realms_in, lane_at, walk}
-use Rattle.rad_config.specs.Faults.{part_faults, top_faults, unknown_faults, faults_in}
+use Rattle.rad_config.specs.Walk.{optional_text_at, listen_in, home_name_in, walk}
+use Rattle.rad_config.specs.Faults.{top_faults, unknown_faults, faults_in}
 use Rattle.rad_config.specs.WithoutOtherHome.{walk_without, faults_without, lane_without, IsRankWithout}
 
 -- ---- the walk and the faults
