@@ -13,7 +13,8 @@ use Rattle.std.proofs.lemmas.Iterator.Adapters.{position_from-zero}
 use Rattle.toml.specs.Data.{Data, Members, get_member, as_str}
 use Rattle.rad_config.specs.declared.reading.faults.Part.{Part}
 use Rattle.rad_config.specs.declared.reading.faults.Part.TheVariants as part
-use Rattle.rad_config.specs.declared.reading.faults.Key.TheVariants.{DefaultHome, Home, Address, Secret, Name}
+use Rattle.rad_config.specs.declared.reading.faults.Key.{Key}
+use Rattle.rad_config.specs.declared.reading.faults.Key.TheVariants.{DefaultHome, OtherHome, Home, Address, Secret, Name}
 use Rattle.rad_config.specs.declared.reading.faults.Spot.{Spot}
 use Rattle.rad_config.specs.declared.reading.faults.ConfigFault.{ConfigFault}
 use Rattle.rad_config.specs.declared.reading.faults.ConfigFault.TheVariants.{Missing, WrongType, OutOfRange, DoubleName, UnknownHome, BadAddress}
@@ -22,8 +23,8 @@ use Rattle.rad_config.specs.Printed.{address_text}
 use Rattle.rad_config.specs.Spot.{key_name}
 use Rattle.rad_config.specs.Realm.{or_else, same_name}
 use Rattle.rad_config.specs.Configuration.{ClientEntry, HomeEntry, RealmEntry}
-use Rattle.rad_config.specs.Walk.{◌>>=◌, refuse_if, spot, needed, text_in, text_at, text_that, address_at, endpoint_at, secret_at, is_home_name, home_name_at, is_realm_name, realm_name_at, text_or_none, optional_text_at, lane_named, limits_at, each, client_in, home_in, realm_in_table, array_of, listen_in, default_home_in, linger_in, clients_in, homes_in, realms_in, default_lane_in, walk}
-use Rattle.rad_config.specs.Faults.{text_of, is_text, is_among, or_if, client_faults, home_faults, is_unknown, realm_faults, table_faults, each_faults, array_faults, tables_or_empty, home_tables, part_faults, top_faults, default_faults, faults_in, first_of}
+use Rattle.rad_config.specs.Walk.{◌>>=◌, refuse_if, spot, needed, text_in, text_at, text_that, address_at, endpoint_at, secret_at, is_home_name, home_name_at, is_realm_name, realm_name_at, text_or_none, optional_text_at, lane_named, limits_at, each, client_in, home_in, realm_in_table, array_of, listen_in, home_name_in, linger_in, clients_in, homes_in, realms_in, lane_at, walk}
+use Rattle.rad_config.specs.Faults.{text_of, is_text, is_among, or_if, client_faults, home_faults, is_unknown, realm_faults, table_faults, each_faults, array_faults, tables_or_empty, home_tables, part_faults, top_faults, unknown_faults, faults_in, first_of}
 use Rattle.rad_config.proofs.Steps.{same_ok, bound, known, kept_by}
 use Rattle.rad_config.proofs.Addresses.{address_only}
 
@@ -46,12 +47,16 @@ step : {A B : Type 0} (ys zs : List ConfigFault) (r : Result A ConfigFault) (f :
     → ((x : A) → r ≡ Ok x → first_of zs ≡ result_err (f x)) → first_of (ys ++ zs) ≡ result_err (r >>= f)
 step ys zs r f e h = first_joined ys zs ∙ ap (λ (o : Option ConfigFault). or_else o (first_of zs)) e ∙ after r f (first_of zs) h
 
+-- behind the last reading there is no other fault
+behind_all : {A B : Type 0} (r : Result A ConfigFault) (g : A → B) → result_err r ≡ result_err (r >>= λ x. Ok (g x))
+behind_all (Ok x) g = refl
+behind_all (Err e) g = refl
+
 one : {A : Type 0} (r : Result A ConfigFault) → first_of (option_to_list (result_err r)) ≡ result_err r
 one r = first_single (result_err r)
 
 last : {A B : Type 0} (r : Result A ConfigFault) (g : A → B) → first_of (option_to_list (result_err r)) ≡ result_err (r >>= λ x. Ok (g x))
-last (Ok x) g = refl
-last (Err e) g = refl
+last r g = first_single (result_err r) ∙ behind_all r g
 
 -- a name that may be there twice, with the rest behind it
 twice : {A B : Type 0} (r : Result A ConfigFault) (test : Bool) (b : A → Bool) (f : A → Result B ConfigFault) (fault : ConfigFault) (zs : List ConfigFault)
@@ -250,11 +255,6 @@ unknown_first : {B : Type 0} (o : Option ℕ) (test : Bool) (fault : ConfigFault
 unknown_first None test fault g e = rw e refl
 unknown_first (Some lane) test fault g e = rw e refl
 
-default_of : {B : Type 0} (o : Option ℕ) (test : Bool) (fault : ConfigFault) (g : Option ℕ → B) → test ≡ not (is_some o)
-    → first_of (option_to_list (or_if None test fault)) ≡ result_err ((ok_or o fault >>= λ lane. Ok (Some lane)) >>= λ lane. Ok (g lane))
-default_of None test fault g e = rw e refl
-default_of (Some lane) test fault g e = rw e refl
-
 module _ (servers : List HomeEntry) (homes : List Members) (known_homes : KnowsHomes servers homes) where
   is_known : (name : List ℕ) → not (is_among part.Home homes Name name) ≡ not (is_some (position (λ h. bytes_eq h.name name) servers))
   is_known name = ap not (known_homes name ∙ sym (placed_any (λ h. bytes_eq h.name name) servers))
@@ -295,14 +295,14 @@ module _ (servers : List HomeEntry) (homes : List Members) (known_homes : KnowsH
       let here : is_text (λ other. str_eq_ignore_ascii_case other text) (text_of Name t) ≡ same_name x.name text = rw read refl in
       more_any (λ u. is_text (λ other. str_eq_ignore_ascii_case other text) (text_of Name u)) (λ r. same_name r.name text) ts es t x (k text) here
 
-  -- ---- the default
+  -- ---- the home servers that are named at the top
 
-  default_first : {B : Type 0} (s : Spot) (name : Option (List ℕ)) (g : Option ℕ → B)
-      → first_of (option_to_list (or_if None (is_unknown homes name) (UnknownHome (spot part.Top 0 DefaultHome)))) ≡ result_err (default_lane_in servers name >>= λ lane. Ok (g lane))
+  lane_first : (key : Key) (name : Option (List ℕ))
+      → first_of (option_to_list (or_if None (is_unknown homes name) (UnknownHome (spot part.Top 0 key)))) ≡ result_err (lane_at key servers name)
   unfolding lane_named
-  default_first s None g = refl
-  default_first s (Some name) g =
-      default_of (position (λ h. bytes_eq h.name name) servers) (not (is_among part.Home homes Name name)) (UnknownHome (spot part.Top 0 DefaultHome)) g (is_known name)
+  lane_first key None = refl
+  lane_first key (Some name) =
+      unknown_first (position (λ h. bytes_eq h.name name) servers) (not (is_among part.Home homes Name name)) (UnknownHome (spot part.Top 0 key)) (λ lane. Some lane) (is_known name)
 
 -- ---- the whole
 
@@ -314,26 +314,31 @@ homes_are_known doc servers e =
     rw tables (all_known home_in part.Home [] KnowsHomes (home_first []) home_keeps [] [] b.0 servers (λ text. refl) b.2)
 
 pub first_of_document : (doc : Members) → first_of (faults_in doc) ≡ result_err (walk doc)
-unfolding faults_in top_faults part_faults default_faults clients_in homes_in realms_in walk
+unfolding faults_in top_faults part_faults unknown_faults clients_in homes_in realms_in walk
 first_of_document doc =
     let homes = home_tables doc in
     let listen = listen_in doc in
-    let default = default_home_in doc in
+    let default = home_name_in DefaultHome doc in
+    let other = home_name_in OtherHome doc in
     let linger = linger_in doc in
     let a = option_to_list (result_err listen) in
     let b = option_to_list (result_err default) in
+    let o = option_to_list (result_err other) in
     let c = option_to_list (result_err linger) in
     let cs = array_faults part.Client homes (array_of part.Client doc) in
     let hs = array_faults part.Home homes (array_of part.Home doc) in
     let rs = array_faults part.Realm homes (array_of part.Realm doc) in
-    let rest = cs ++ (hs ++ (rs ++ default_faults doc)) in
-    ap first_of (append_assoc a (b ++ c) rest ∙ ap (λ (fs : List ConfigFault). a ++ fs) (append_assoc b c rest))
-    ∙ step a (b ++ (c ++ rest)) listen _ (one listen) (λ l _.
-    step b (c ++ rest) default _ (one default) (λ d is_default.
+    let ends = unknown_faults DefaultHome doc ++ unknown_faults OtherHome doc in
+    let rest = cs ++ (hs ++ (rs ++ ends)) in
+    ap first_of (append_assoc a (b ++ (o ++ c)) rest ∙ ap (λ (fs : List ConfigFault). a ++ fs) (append_assoc b (o ++ c) rest ∙ ap (λ (fs : List ConfigFault). b ++ fs) (append_assoc o c rest)))
+    ∙ step a (b ++ (o ++ (c ++ rest))) listen _ (one listen) (λ l _.
+    step b (o ++ (c ++ rest)) default _ (one default) (λ d is_default.
+    step o (c ++ rest) other _ (one other) (λ t is_other.
     step c rest linger _ (one linger) (λ n _.
-    step cs (hs ++ (rs ++ default_faults doc)) (clients_in doc) _ (array_first client_in part.Client homes KnowsClients (client_first homes) client_keeps (array_of part.Client doc) (λ text address is. refl)) (λ clients _.
-    step hs (rs ++ default_faults doc) (homes_in doc) _ (array_first home_in part.Home homes KnowsHomes (home_first homes) home_keeps (array_of part.Home doc) (λ text. refl)) (λ servers are.
+    step cs (hs ++ (rs ++ ends)) (clients_in doc) _ (array_first client_in part.Client homes KnowsClients (client_first homes) client_keeps (array_of part.Client doc) (λ text address is. refl)) (λ clients _.
+    step hs (rs ++ ends) (homes_in doc) _ (array_first home_in part.Home homes KnowsHomes (home_first homes) home_keeps (array_of part.Home doc) (λ text. refl)) (λ servers are.
     let known_homes = homes_are_known doc servers are in
-    step rs (default_faults doc) (realms_in servers doc) _ (array_first (realm_in_table servers) part.Realm homes KnowsRealms (realm_first servers homes known_homes) (realm_keeps servers homes known_homes) (array_of part.Realm doc) (λ text. refl)) (λ realms _.
-    rw (optional_read (spot part.Top 0 DefaultHome) doc d is_default)
-    (default_first servers homes known_homes (spot part.Top 0 DefaultHome) d (λ lane. record { listen = l; linger = n; clients = clients; homes = servers; realms = realms; default_lane = lane }))))))))
+    step rs ends (realms_in servers doc) _ (array_first (realm_in_table servers) part.Realm homes KnowsRealms (realm_first servers homes known_homes) (realm_keeps servers homes known_homes) (array_of part.Realm doc) (λ text. refl)) (λ realms _.
+    rw (optional_read (spot part.Top 0 DefaultHome) doc d is_default, optional_read (spot part.Top 0 OtherHome) doc t is_other)
+    (step (option_to_list (or_if None (is_unknown homes d) (UnknownHome (spot part.Top 0 DefaultHome)))) (option_to_list (or_if None (is_unknown homes t) (UnknownHome (spot part.Top 0 OtherHome)))) (lane_at DefaultHome servers d) _ (lane_first servers homes known_homes DefaultHome d) (λ lane _.
+    lane_first servers homes known_homes OtherHome t ∙ behind_all (lane_at OtherHome servers t) (λ (more : Option ℕ). record { listen = l; linger = n; clients = clients; homes = servers; realms = realms; default_lane = lane; other_lane = more }))))))))))

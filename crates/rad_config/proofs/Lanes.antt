@@ -6,7 +6,7 @@ use Rattle.std.proofs.lemmas.Bool.{cases_Bool}
 use Rattle.std.proofs.lemmas.List.Elements.{recursion_from_All}
 use Rattle.rad_config.specs.Configuration.{RealmEntry}
 use Rattle.rad_config.specs.declared.realms.Destination.{Destination}
-use Rattle.rad_config.specs.Realm.{same_name, lane_in}
+use Rattle.rad_config.specs.Realm.{same_name, or_else, row_of, lane_in}
 
 -- what is found is one of those that are looked at
 mapped_within : (most : ℕ) (p : RealmEntry → Bool) (table : List RealmEntry) → AllByRecursion (λ r. r.lane < most) table → IfSome (option_map (λ r. r.lane) (find p table)) (λ lane. lane < most)
@@ -17,12 +17,18 @@ mapped_within most p (r ∷ rs) h =
       | inr other ↦ rw other (mapped_within most p rs h.1)
     ]
 
-pub lane_within : (most : ℕ) (table : List RealmEntry) (realm : List ℕ) → All (λ r. r.lane < most) table → IfSome (lane_in table realm) (λ lane. lane < most)
+either_within : (most : ℕ) (first second : Option ℕ) → IfSome first (λ lane. lane < most) → IfSome second (λ lane. lane < most) → IfSome (or_else first second) (λ lane. lane < most)
+either_within most None second h other = other
+either_within most (Some lane) second h other = h
+
+pub lane_within : (most : ℕ) (table : List RealmEntry) (other : Option ℕ) (realm : List ℕ) → All (λ r. r.lane < most) table → IfSome other (λ lane. lane < most) → IfSome (lane_in table other realm) (λ lane. lane < most)
 unfolding lane_in
-lane_within most table realm h =
+lane_within most table other realm h rest =
     elim (cases_Bool (length realm == 0)) [
       | inl empty ↦ rw empty tt
-      | inr some ↦ rw some (mapped_within most (λ r. same_name r.name realm) table (recursion_from_All (λ r. r.lane < most) table h))
+      | inr some ↦
+          let row = mapped_within most (λ r. same_name r.name realm) table (recursion_from_All (λ r. r.lane < most) table h) in
+          rw some (either_within most (option_map (λ r. r.lane) (row_of table realm)) other row rest)
     ]
 
 -- a destination is a lane that its realm leads to

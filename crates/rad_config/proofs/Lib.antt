@@ -17,3 +17,4 @@ pub mod WellFormed
 pub mod Lanes
 pub mod Listing
 pub mod FirstFaults
+pub mod WithoutOtherHome

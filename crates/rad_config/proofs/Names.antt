@@ -152,8 +152,12 @@ realm_pushed m n realms items r key made indexes is_key is_lane is_rank grown up
   short = short_push realms r indexes.short short;
 })
 
+is_rank : (realms : List RealmEntry) (lane : ℕ) (name : List ℕ) (rank : Option ℕ) → is_at (λ n. same_name n name) (realms_of realms lane) rank ≡ true → IsRank realms lane (Some name) rank
+is_rank realms lane name None at = absurd (false≢true at)
+is_rank realms lane name (Some place) at = at
+
 -- the rank of a name that is found
 pub rank_found : (m : BTreeMap Key Destination) (realms : List RealmEntry) (name : List ℕ) (found : Option Destination) → IndexesRealms m realms → found ≡ tree.get_by (at_name (map to_ascii_lowercase name)) m
     → IfSome found (λ d. IsRank realms d.lane (Some name) d.rank)
 rank_found m realms name None indexes is = tt
-rank_found m realms name (Some d) indexes is = indexes.ranks (map to_ascii_lowercase name) d (sym is)
+rank_found m realms name (Some d) indexes is = is_rank realms d.lane name d.rank (indexes.ranks (map to_ascii_lowercase name) d (sym is))

@@ -11,14 +11,15 @@ use Rattle.toml.specs.Data.{Members}
 use Rattle.rad_config.specs.declared.limits.LimitNumbers.{LimitNumbers}
 use Rattle.rad_config.specs.declared.limits.LimitFault.{LimitFault}
 use Rattle.rad_config.specs.declared.reading.faults.Part.TheVariants as part
-use Rattle.rad_config.specs.declared.reading.faults.Key.TheVariants.{DefaultHome, Client, Home, Realm, Address, Secret, Name}
+use Rattle.rad_config.specs.declared.reading.faults.Key.{Key}
+use Rattle.rad_config.specs.declared.reading.faults.Key.TheVariants.{DefaultHome, OtherHome, Client, Home, Realm, Address, Secret, Name}
 use Rattle.rad_config.specs.declared.reading.faults.Spot.{Spot}
 use Rattle.rad_config.specs.declared.reading.faults.ConfigFault.TheVariants.{DoubleName, UnknownHome, OutOfRange, Toml}
 use Rattle.rad_config.specs.Configuration.{ClientEntry, HomeEntry, RealmEntry, Configuration}
 use Rattle.rad_config.specs.Limits.{AreInRange, limits_of, first_fault}
 use Rattle.rad_config.specs.Realm.{same_name}
 use Rattle.rad_config.specs.WellFormed.{IsRealmName, IsWellFormed}
-use Rattle.rad_config.specs.Walk.{refuse_if, spot, array_of, listen_in, default_home_in, linger_in, address_at, secret_at, home_name_at, text_that, text_at, has_length, is_realm_name, realm_name_at, endpoint_at, numbers_at, kept_or_fault, limits_at, client_in, home_in, realm_in_table, lane_named, clients_in, homes_in, realms_in, default_lane_in, walk, configuration_in}
+use Rattle.rad_config.specs.Walk.{refuse_if, spot, array_of, listen_in, home_name_in, linger_in, address_at, secret_at, home_name_at, text_that, text_at, has_length, is_realm_name, realm_name_at, endpoint_at, numbers_at, kept_or_fault, limits_at, client_in, home_in, realm_in_table, lane_named, clients_in, homes_in, realms_in, lane_at, walk, configuration_in}
 use Rattle.toml.specs.Parse.{parse_document}
 use Rattle.rad_config.proofs.Ranges.{in_range}
 use Rattle.rad_config.proofs.Steps.{same_ok, bound, not_refused, known, kept_by}
@@ -191,33 +192,37 @@ realms_are homes doc realms e =
     let none : RealmsKept homes [] = record { forms = All-nil _; apart = λ i j d before lt. absurd (omega (arith, lt)); lanes = All-nil _ } in
     (omega (arith, counted, as_many), each_keeps (realm_in_table homes) (RealmsKept homes) (realm_kept homes) [] tables.0 realms none tables.2)
 
-default_within : (homes : List HomeEntry) (name : Option (List ℕ)) (lane : Option ℕ) → default_lane_in homes name ≡ Ok lane → IfSome lane (λ n. n < length homes)
-default_within homes None lane e = subst (λ (o : Option ℕ). IfSome o (λ n. n < length homes)) (same_ok None lane (Ok None) refl e) tt
-default_within homes (Some name) lane e =
-    let found = bound (lane_named homes (spot part.Top 0 DefaultHome) name) _ lane e in
+lane_at_within : (key : Key) (homes : List HomeEntry) (name : Option (List ℕ)) (lane : Option ℕ) → lane_at key homes name ≡ Ok lane → IfSome lane (λ n. n < length homes)
+lane_at_within key homes None lane e = subst (λ (o : Option ℕ). IfSome o (λ n. n < length homes)) (same_ok None lane (Ok None) refl e) tt
+lane_at_within key homes (Some name) lane e =
+    let found = bound (lane_named homes (spot part.Top 0 key) name) _ lane e in
     subst (λ (o : Option ℕ). IfSome o (λ n. n < length homes)) (same_ok (Some found.0) lane (Ok (Some found.0)) refl found.2) (lane_within homes _ name found.0 found.1)
 
 -- ---- the whole
 
 pub record IsReadBy (doc : Members) (c : Configuration) : Type 0 where
   pub default_home : Option (List ℕ)
+  pub other_home : Option (List ℕ)
   pub clients : clients_in doc ≡ Ok c.clients
   pub homes : homes_in doc ≡ Ok c.homes
   pub realms : realms_in c.homes doc ≡ Ok c.realms
-  pub default_lane : default_lane_in c.homes default_home ≡ Ok c.default_lane
+  pub default_lane : lane_at DefaultHome c.homes default_home ≡ Ok c.default_lane
+  pub other_lane : lane_at OtherHome c.homes other_home ≡ Ok c.other_lane
 
 parts_of : (doc : Members) (c : Configuration) → walk doc ≡ Ok c → IsReadBy doc c
 unfolding walk
 parts_of doc c e =
     let listen = bound (listen_in doc) _ c e in
-    let default_home = bound (default_home_in doc) _ c listen.2 in
-    let linger = bound (linger_in doc) _ c default_home.2 in
+    let default_home = bound (home_name_in DefaultHome doc) _ c listen.2 in
+    let other_home = bound (home_name_in OtherHome doc) _ c default_home.2 in
+    let linger = bound (linger_in doc) _ c other_home.2 in
     let clients = bound (clients_in doc) _ c linger.2 in
     let homes = bound (homes_in doc) _ c clients.2 in
     let realms = bound (realms_in homes.0 doc) _ c homes.2 in
-    let default_lane = bound (default_lane_in homes.0 default_home.0) _ c realms.2 in
-    subst (IsReadBy doc) (same_ok (record { listen = listen.0; linger = linger.0; clients = clients.0; homes = homes.0; realms = realms.0; default_lane = default_lane.0 }) c _ refl default_lane.2)
-    (record { default_home = default_home.0; clients = clients.1; homes = homes.1; realms = realms.1; default_lane = default_lane.1 })
+    let default_lane = bound (lane_at DefaultHome homes.0 default_home.0) _ c realms.2 in
+    let other_lane = bound (lane_at OtherHome homes.0 other_home.0) _ c default_lane.2 in
+    subst (IsReadBy doc) (same_ok (record { listen = listen.0; linger = linger.0; clients = clients.0; homes = homes.0; realms = realms.0; default_lane = default_lane.0; other_lane = other_lane.0 }) c _ refl other_lane.2)
+    (record { default_home = default_home.0; other_home = other_home.0; clients = clients.1; homes = homes.1; realms = realms.1; default_lane = default_lane.1; other_lane = other_lane.1 })
 
 pub read_well : (doc : Members) (c : Configuration) → IsReadBy doc c → IsWellFormed c
 read_well doc c parts =
@@ -234,7 +239,8 @@ read_well doc c parts =
       realm_forms = realms.1.forms;
       realm_names = realms.1.apart;
       lanes = realms.1.lanes;
-      default_lane = default_within c.homes parts.default_home c.default_lane parts.default_lane;
+      default_lane = lane_at_within DefaultHome c.homes parts.default_home c.default_lane parts.default_lane;
+      other_lane = lane_at_within OtherHome c.homes parts.other_home c.other_lane parts.other_lane;
     }
 
 pub well_formed : (text : List ℕ) (c : Configuration) → configuration_in text ≡ Ok c → IsWellFormed c

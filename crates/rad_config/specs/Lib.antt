@@ -7,5 +7,6 @@ pub mod WellFormed
 pub mod Walk
 pub mod Gives
 pub mod Faults
+pub mod WithoutOtherHome
 pub mod Printed
 pub mod internal

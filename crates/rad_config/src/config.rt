@@ -70,8 +70,10 @@ impl Config {
         Some(Destination { lane, rank: None })
     }
 
-    /// Returns where a request with this realm leads, or one without a realm. It takes time logarithmic in the number of
-    /// realms, and allocates nothing.
+    /// Returns where a request with this realm leads, or one without a realm. A realm that is in no row of the table
+    /// leads to the lane of all other realms, if there is one, and an empty realm leads nowhere. Without a realm, this is
+    /// the lane of the default home server, if there is one. It takes time logarithmic in the number of realms, and
+    /// allocates nothing.
     pub fn destination_of(&self, realm: Option<&[u8]>) -> Option<Destination>
         ensures lane { option_map (λ d. d.lane) result ≡ lane_by self.now (option_copied realm.entry) }
         ensures rank { IfSome result (λ d. IsRank self.now.realms d.lane (option_copied realm.entry) d.rank) }
@@ -86,9 +88,10 @@ impl Config {
         }
     }
 
-    /// Returns the lane that a User-Name's value leads to. Without a User-Name, or without a realm in it, this is the
-    /// lane of the default home server, if there is one. It takes time logarithmic in the number of realms, and
-    /// allocates nothing.
+    /// Returns the lane that a User-Name's value leads to: that of its realm. Without a User-Name, or without a realm in
+    /// it, this is the lane of the default home server, if there is one. A realm that is in no row of the table leads to
+    /// the lane of all other realms, if there is one, and an empty realm leads nowhere. It takes time logarithmic in the
+    /// number of realms, and allocates nothing.
     pub fn lane_of(&self, user_name: Option<&[u8]>) -> Option<u16>
         ensures lane { result ≡ lane_of self.now (option_copied user_name.entry) }
         ensures within { IfSome result (λ lane. lane < length self.now.homes) }

@@ -1,6 +1,6 @@
 //! Theorems about the definitions. Each function has an empty body; its contract states the theorem.
 
-ghost use Rattle.std.specs.Prelude.{◌≡◌, ◌<◌, ◌≤◌, ◌^◌, true, ◌↔◌, ◌==◌, ◌++◌, ◌∷◌, [], List, ℕ, Some, None, not};
+ghost use Rattle.std.specs.Prelude.{◌≡◌, ◌<◌, ◌≤◌, ◌^◌, true, ◌↔◌, ◌==◌, ◌++◌, ◌∷◌, [], List, ℕ, Option, Some, None, not};
 ghost use Rattle.std.specs.List.{list_all};
 ghost use Rattle.std.specs.Fmt.{decimal};
 ghost use Rattle.rad_config.specs.declared.limits.LimitNumbers.{LimitNumbers};
@@ -8,15 +8,18 @@ ghost use Rattle.rad_config.specs.Limits.{AreInRange, limits_of, first_fault};
 ghost use Rattle.rad_config.specs.declared.reading.address.Endpoint.{Endpoint};
 ghost use Rattle.rad_config.specs.Address.{number_in, address_in, endpoint_in, IsAddress};
 ghost use Rattle.rad_config.specs.Printed.{address_text, endpoint_text};
-ghost use Rattle.rad_config.specs.Realm.{realm_in};
+ghost use Rattle.rad_config.specs.Realm.{realm_in, lane_by, IsRank};
 ghost use Rattle.rad_config.specs.Configuration.{Configuration};
 ghost use Rattle.std.specs.Prelude.{Ok};
 ghost use Rattle.rad_config.specs.Walk.{configuration_in};
 ghost use Rattle.rad_config.specs.WellFormed.{IsWellFormed};
 ghost use Rattle.std.specs.Result.{result_err};
-ghost use Rattle.toml.specs.Data.{Members};
+ghost use Rattle.toml.specs.Data.{Members, get_member};
+ghost use Rattle.rad_config.specs.declared.reading.faults.Key.TheVariants.{OtherHome};
+ghost use Rattle.rad_config.specs.Spot.{key_name};
 ghost use Rattle.rad_config.specs.Walk.{walk};
 ghost use Rattle.rad_config.specs.Faults.{first_of, faults_in};
+ghost use Rattle.rad_config.specs.WithoutOtherHome.{walk_without, faults_without, lane_without, IsRankWithout};
 
 /// Numbers have no fault exactly if each of them is in its range.
 pub fn no_fault_in_range()
@@ -55,4 +58,15 @@ pub fn configurations_are_well_formed()
 /// The first of the listed faults of a document is the one at which the walk stops.
 pub fn the_walk_stops_at_the_first_fault()
     ensures { (doc : Members) → first_of (faults_in doc) ≡ result_err (walk doc) }
+{}
+
+/// Where a document has no key `other_home`, it gives the configuration, or the first fault, and has the faults that it
+/// had before there was this key. Where no lane takes the realms that are not listed, the lane of a realm, of a
+/// User-Name and of a packet is what it was by the table and the default, and so is the rank
+/// (`specs/WithoutOtherHome.antt`).
+pub fn without_other_home_nothing_changed()
+    ensures walk { (doc : Members) → get_member (key_name OtherHome) doc ≡ None → walk doc ≡ walk_without doc }
+    ensures faults { (doc : Members) → get_member (key_name OtherHome) doc ≡ None → faults_in doc ≡ faults_without doc }
+    ensures lane { (c : Configuration) (realm : Option (List ℕ)) → c.other_lane ≡ None → lane_by c realm ≡ lane_without c.realms c.default_lane realm }
+    ensures rank { (c : Configuration) (realm : Option (List ℕ)) (lane : ℕ) (rank : Option ℕ) → c.other_lane ≡ None → lane_by c realm ≡ Some lane → IsRank c.realms lane realm rank → IsRankWithout c.realms lane realm rank }
 {}

@@ -21,7 +21,7 @@ pub use homes::Home;
 pub use laws::{
     addresses_have_one_text, configurations_are_well_formed, endpoints_have_one_text,
     no_fault_in_range, numbers_have_one_text, realm_follows_the_last_sign,
-    the_walk_stops_at_the_first_fault,
+    the_walk_stops_at_the_first_fault, without_other_home_nothing_changed,
 };
 pub use limits::{DEFAULT_LIMITS, LimitFault, LimitNumbers, Limits};
 pub use reading::{

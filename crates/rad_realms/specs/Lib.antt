@@ -7,6 +7,7 @@ pub use Rattle.rad_config.specs.WellFormed
 pub use Rattle.rad_config.specs.Walk
 pub use Rattle.rad_config.specs.Gives
 pub use Rattle.rad_config.specs.Faults
+pub use Rattle.rad_config.specs.WithoutOtherHome
 pub mod Checking
 pub mod Incoming
 pub mod Printed

@@ -44,7 +44,7 @@ pub struct Checked<'a> {
     realm: Option<&'a [u8]>,
     /// The lane that it leads to.
     lane: u16,
-    /// The index of its realm among the realms of that lane, if it has a realm.
+    /// The index of its realm among the realms of the table that lead to that lane, if it has a realm that is listed.
     rank: Option<usize>,
 }
 
@@ -109,8 +109,8 @@ impl<'a> Checked<'a> {
         self.lane
     }
 
-    /// Returns the index of its realm among the realms that lead to its lane, in the order of the configuration,
-    /// counted from 0. Returns `None` if it has no realm.
+    /// Returns the index of its realm among the realms of the table that lead to its lane, in the order of the
+    /// configuration, counted from 0. Returns `None` if it has no realm, or one that is in no row of the table.
     pub fn rank(&self) -> Option<usize>
         ensures { IsRank self.now.config.realms self.now.lane (realm_of_packet self.now.text) result }
     {
@@ -175,8 +175,8 @@ pub enum Dropped {
     BadMessageAuthenticator,
     /// An Accounting-Request has a Message-Authenticator, which this proxy does not forward.
     MessageAuthenticatorHere,
-    /// An Accounting-Request leads to no lane: its realm is empty or unknown, or it has no realm and there is no
-    /// default home server.
+    /// An Accounting-Request leads to no lane: its realm is empty; or it is in no row of the table, and no home server
+    /// takes all other realms; or it has no realm, and there is no default home server.
     NoRealm,
 }
 

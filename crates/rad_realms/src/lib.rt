@@ -17,4 +17,5 @@ pub use rad_config::{
     LimitFault, LimitNumbers, Limits, Part, Realm, Realms, Spot, addresses_have_one_text,
     configurations_are_well_formed, endpoints_have_one_text, list_faults, no_fault_in_range,
     numbers_have_one_text, read_address, read_config, read_document, realm_follows_the_last_sign,
+    without_other_home_nothing_changed,
 };

@@ -24,7 +24,7 @@ invariant_of-result c =
       record {
         request = record { packet = search rules; code = c.requires.code; right = right; unsigned = c.in_ok-name.ensures.0 };
         client = c.requires.client;
-        lane = lane_is c.args.config.now.realms c.args.config.now.default_lane c.args.packet _ _ c.in-Some.ensures.lane realm;
+        lane = lane_is c.args.config.now c.args.packet _ _ c.in-Some.ensures.lane realm;
         within = c.in-Some.ensures.within;
       },
       realm,
@@ -39,7 +39,7 @@ returns-in-Some c =
       checked = record {
         request = record { packet = search rules; code = c.requires.code; right = right; unsigned = c.in_ok-name.ensures.0 };
         client = c.requires.client;
-        lane = lane_is c.args.config.now.realms c.args.config.now.default_lane c.args.packet _ _ c.in-Some.ensures.lane realm;
+        lane = lane_is c.args.config.now c.args.packet _ _ c.in-Some.ensures.lane realm;
         within = c.in-Some.ensures.within;
       };
       same_config = refl;
@@ -54,5 +54,5 @@ returns-in-None c =
     let right = subst (λ s. IsRightRequest s c.args.packet) c.secret.ensures (c.check_request.ensures.0 c.if-not-check_request.false) in
     let realm = realm_is c.args.packet _ _ c.realm_of_name-realm.ensures c.in_ok-name.ensures.1 in (
       record { packet = search rules; code = c.requires.code; right = right; unsigned = c.in_ok-name.ensures.0 },
-      lane_is c.args.config.now.realms c.args.config.now.default_lane c.args.packet _ _ c.in-None.ensures.lane realm,
+      lane_is c.args.config.now c.args.packet _ _ c.in-None.ensures.lane realm,
     )
