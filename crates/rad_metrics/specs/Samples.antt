@@ -17,17 +17,24 @@ abbrev pub reason_key : Reason → List ℕ
 reason_key (reason.Repeat why) = codes "repeat"
 reason_key why = codes "reason"
 
--- A label; a lane's are its number and its home server's name. In a realm's name `\` is escaped too.
+-- A label; a lane's are its number and its home server's name. In a realm's name `\` is escaped too. A realm of the table
+-- has no `@` in its name, which that of all other realms begins with.
 abbrev pub label_text : Label → List ℕ
 label_text (label.Version version) = codes "version=\"" ++ version.now ++ codes "\""
 label_text label.Clients = codes "side=\"clients\""
 label_text (label.Client address) = codes "client=\"" ++ address_text address ++ codes "\""
 label_text (label.Home lane home) = codes "lane=\"" ++ decimal lane ++ codes "\",home=\"" ++ home.now ++ codes "\""
 label_text (label.Realm name) = codes "realm=\"" ++ escaped (Some 92) name.now ++ codes "\""
+label_text label.OtherRealms = codes "realm=\"@other\""
 label_text (label.Reason why) = reason_key why ++ codes "=\"" ++ reason_name why ++ codes "\""
 label_text (label.Bound bucket) = codes "le=\"" ++ bound_text bucket ++ codes "\""
 label_text (label.Port place) = codes "port=\"" ++ decimal place ++ codes "\""
 label_text (label.Socket at) = codes "socket=\"" ++ endpoint_text at ++ codes "\""
+
+-- The label of all realms that are in no row of the table, if they lead to this lane. Without a lane there is none.
+abbrev pub others_label : Option ℕ → Option Label
+others_label None = None
+others_label (Some lane) = Some label.OtherRealms
 
 -- The labels of a sample, its owner's and another one: in braces, with a comma between two, and nothing where it has none.
 abbrev pub labels_text : Option Label → Option Label → List ℕ

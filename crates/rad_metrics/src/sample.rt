@@ -2,7 +2,7 @@
 //! its name.
 
 ghost use Rattle.std.specs.Prelude.{◌≡◌, ◌++◌};
-ghost use Rattle.rad_metrics.specs.Samples.{reason_key, labels_text};
+ghost use Rattle.rad_metrics.specs.Samples.{reason_key, labels_text, others_label};
 
 use crate::histogram::bound_label;
 use crate::reason::Reason;
@@ -24,6 +24,8 @@ pub enum Label<'a> {
     Home(usize, &'a str),
     /// A realm, by its name, which is printed as in a line of the log, and `\` as `%5c` too: so it needs no other escapes.
     Realm(&'a str),
+    /// All realms that are in no row of the table.
+    OtherRealms,
     /// Why, or what is repeated.
     Reason(Reason),
     /// The bound of this bucket, in seconds.
@@ -60,6 +62,7 @@ impl fmt::Display for Label<'_> {
                 };
                 write!(f, "realm=\"{name}\"")
             }
+            Label::OtherRealms => f.write_str("realm=\"@other\""),
             Label::Reason(reason) => {
                 let key = key_of(reason);
                 let name = reason.name();
@@ -81,6 +84,16 @@ fn key_of(reason: Reason) -> &'static str
     match reason {
         Reason::Repeat(_) => "repeat",
         _ => "reason",
+    }
+}
+
+/// Returns the label of all realms that are in no row of the table, if they lead to a lane.
+pub(crate) fn label_of_others<'a>(lane: Option<u16>) -> Option<Label<'a>>
+    ensures { result ≡ others_label lane }
+{
+    match lane {
+        Some(_) => Some(Label::OtherRealms),
+        None => None,
     }
 }
 
