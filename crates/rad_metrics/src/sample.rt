@@ -40,6 +40,23 @@ pub enum Label<'a> {
 #[derive(Clone, Copy)]
 pub struct Labels<'a>(pub Option<Label<'a>>, pub Option<Label<'a>>);
 
+/// The labels of a lane: its number, and its home server's name.
+#[derive(Clone, Copy)]
+struct HomeLabels<'a>(usize, &'a str);
+
+impl fmt::Display for HomeLabels<'_> {
+    ghost use Rattle.std.specs.Prelude.{Some};
+    ghost use Rattle.rad_metrics.specs.Samples.{home_labels};
+
+    ghost output = { λ labels. Some (home_labels labels.0 labels.1.now) };
+
+    #[tactic(auto, unfolding(crate::specs::Samples::home_labels))]
+    fn fmt<W: fmt::Write>(&self, f: &mut fmt::Formatter<W>) -> fmt::Result {
+        let HomeLabels(lane, home) = *self;
+        write!(f, "lane=\"{lane}\",home=\"{home}\"")
+    }
+}
+
 impl fmt::Display for Label<'_> {
     ghost use Rattle.std.specs.Prelude.{Some};
     ghost use Rattle.rad_metrics.specs.Samples.{label_text};
@@ -54,7 +71,7 @@ impl fmt::Display for Label<'_> {
                 let address = AddressText(address);
                 write!(f, "client=\"{address}\"")
             }
-            Label::Home(lane, home) => write!(f, "lane=\"{lane}\",home=\"{home}\""),
+            Label::Home(lane, home) => HomeLabels(lane, home).fmt(f),
             Label::Realm(name) => {
                 let name = Escaped {
                     octets: name.as_bytes(),
