@@ -43,10 +43,13 @@ fine_config with_secrets c =
       (
         any_name 2 c.homes c.default_lane,
         (
-          (omega arith, tt),
+          any_name 2 c.homes c.other_lane,
           (
-            fine_array (client_value with_secrets) 1 (fine_client with_secrets) c.clients,
-            (fine_array (home_value with_secrets) 1 (fine_home with_secrets) c.homes, (fine_array (realm_value c.homes) 1 (fine_realm c.homes) c.realms, tt)),
+            (omega arith, tt),
+            (
+              fine_array (client_value with_secrets) 1 (fine_client with_secrets) c.clients,
+              (fine_array (home_value with_secrets) 1 (fine_home with_secrets) c.homes, (fine_array (realm_value c.homes) 1 (fine_realm c.homes) c.realms, tt)),
+            ),
           ),
         ),
       ),

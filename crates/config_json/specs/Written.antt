@@ -53,7 +53,8 @@ realm_value homes realm = object_of (realm_slots homes realm)
 -- A configuration.
 abbrev pub config_slots : Bool → Configuration → List (List ℕ × Option Json)
 config_slots with_secrets c =
-    (codes "listen", Some (string (endpoint_text c.listen))) ∷ (codes "default_home", name_at c.homes c.default_lane) ∷ (codes "linger", Some (number_value c.linger))
+    (codes "listen", Some (string (endpoint_text c.listen))) ∷ (codes "default_home", name_at c.homes c.default_lane) ∷ (codes "other_home", name_at c.homes c.other_lane)
+    ∷ (codes "linger", Some (number_value c.linger))
     ∷ (codes "client", Some (array (items_of (client_value with_secrets) c.clients))) ∷ (codes "home", Some (array (items_of (home_value with_secrets) c.homes)))
     ∷ (codes "realm", Some (array (items_of (realm_value c.homes) c.realms))) ∷ []
 

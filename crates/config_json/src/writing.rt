@@ -42,6 +42,7 @@ fn config_members(
 {
     let listen = config.listen();
     let default = config.lane_of(None);
+    let other = config.other_lane();
     let linger = config.linger();
     let clients = config.clients();
     let homes = config.homes();
@@ -49,6 +50,7 @@ fn config_members(
     writer.begin_object()?;
     endpoint(alloc, writer, "listen", listen)?;
     home_name_if_any(writer, "default_home", homes, default)?;
+    home_name_if_any(writer, "other_home", homes, other)?;
     number(writer, "linger", linger)?;
     writer.key("client")?;
     write_clients(alloc, writer, clients, with_secrets)?;

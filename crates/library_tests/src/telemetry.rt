@@ -5,3 +5,4 @@ mod ledgers;
 mod logs;
 mod reporting;
 mod sockets;
+mod unlisted;

@@ -10,8 +10,9 @@ use Rattle.rad_config.specs.declared.reading.address.Endpoint.{Endpoint}
 use Rattle.rad_realms.specs.Configuration.{ClientEntry, HomeEntry, RealmEntry, Configuration}
 use Rattle.rad_realms.specs.Walk.{spot}
 use Rattle.rad_realms.specs.Spot.{key_name}
+use Rattle.rad_realms.specs.Realm.{same_name}
 use Rattle.rad_advice.specs.declared.doubts.Doubt.{Doubt}
-use Rattle.rad_advice.specs.declared.doubts.Doubt.TheVariants.{NoRealm, UnusedHome, SharedAddress, ExampleSecret, ControlSecret, ShortSecret, ShortSpan, AnyRealm, PatternRealm, DottedRealm}
+use Rattle.rad_advice.specs.declared.doubts.Doubt.TheVariants.{NoRealm, UnusedHome, SharedAddress, ExampleSecret, ControlSecret, ShortSecret, ShortSpan, AnyRealm, NullRealm, PatternRealm, TildeRealm, DottedRealm}
 use Rattle.rad_advice.specs.declared.doubts.Doubtful.{Doubtful}
 use Rattle.rad_advice.specs.declared.doubts.Warning.{Warning}
 use Rattle.rad_advice.specs.Keys.{BeginsAtPlace}
@@ -63,17 +64,20 @@ client_doubts index client = secret_doubts part.Client index client.secret
 
 -- ---- home servers
 
--- No realm leads anywhere, and there is no default.
+-- No realm is listed, and there is no lane for requests without a realm or for all other realms.
 abbrev pub leads_nowhere : Configuration → Bool
-leads_nowhere c = length c.realms == 0 && is_none c.default_lane
+leads_nowhere c = length c.realms == 0 && is_none c.default_lane && is_none c.other_lane
 
 abbrev pub is_default : Option ℕ → ℕ → Bool
 is_default None lane = false
 is_default (Some default) lane = default == lane
 
--- No realm leads to this lane, and it is not the default, though there is a realm or a default.
+-- No listed realm leads to this lane, and neither requests without a realm nor all other realms do, though something
+-- leads to a lane.
 abbrev pub is_unused : Configuration → ℕ → Bool
-is_unused c lane = not (leads_nowhere c) && not (list_any (λ r. r.lane == lane) c.realms || is_default c.default_lane lane)
+is_unused c lane =
+    not (leads_nowhere c)
+    && not (list_any (λ r. r.lane == lane) c.realms || is_default c.default_lane lane || is_default c.other_lane lane)
 
 abbrev pub is_shared : List HomeEntry → Endpoint → Bool
 is_shared earlier endpoint = list_any (λ h. h.endpoint.port == endpoint.port && bytes_eq h.endpoint.address endpoint.address) earlier
@@ -91,11 +95,17 @@ home_doubts c index home =
 abbrev pub last_octet : List ℕ → ℕ
 last_octet name = slice_index name (length name - 1)
 
+-- The names that other proxies take for all realms: `*`, and `DEFAULT` in letters of either case.
+abbrev pub means_any : List ℕ → Bool
+means_any name = same_name name (codes "*") || same_name name (codes "default")
+
 abbrev pub realm_doubt : List ℕ → Option Doubt
 realm_doubt name =
     if length name == 0 then None
-    else if length name == 1 && slice_index name 0 == 42 then Some AnyRealm
+    else if means_any name then Some AnyRealm
+    else if same_name name (codes "null") then Some NullRealm
     else if slice_index name 0 == 47 then Some PatternRealm
+    else if slice_index name 0 == 126 then Some TildeRealm
     else if last_octet name == 46 then Some DottedRealm
     else None
 
@@ -135,6 +145,8 @@ event_name ControlSecret = codes "weak-secret"
 event_name ShortSecret = codes "weak-secret"
 event_name ShortSpan = codes "short-span"
 event_name AnyRealm = codes "realm-name"
+event_name NullRealm = codes "realm-name"
+event_name TildeRealm = codes "realm-name"
 event_name PatternRealm = codes "realm-name"
 event_name DottedRealm = codes "realm-name"
 
@@ -146,7 +158,9 @@ doubt_text ExampleSecret = codes "an example has this secret"
 doubt_text ControlSecret = codes "it has a control character, as a backslash makes one in quotation marks"
 doubt_text ShortSecret = codes "it has fewer than 8 octets"
 doubt_text ShortSpan = codes "below 5000 ms, so a late repeat is sent on as a new request"
-doubt_text AnyRealm = codes "a realm of this name, not each realm: default_home serves names without a realm"
+doubt_text AnyRealm = codes "a realm of this name, not each realm: other_home takes all that are not listed"
+doubt_text NullRealm = codes "a realm of this name: default_home takes names without a realm, other_home all realms that are not listed"
+doubt_text TildeRealm = codes "it begins with ~, but a realm is a name, not a pattern: other_home takes all that are not listed"
 doubt_text PatternRealm = codes "it begins with /, but a realm is a name, not a pattern"
 doubt_text DottedRealm = codes "it ends with a dot, as hardly a user's realm does"
 

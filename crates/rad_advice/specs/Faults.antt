@@ -8,7 +8,7 @@ use Rattle.toml.specs.Parse.{parse_document}
 use Rattle.rad_config.specs.declared.reading.faults.Part.{Part}
 use Rattle.rad_config.specs.declared.reading.faults.Part.TheVariants as part
 use Rattle.rad_config.specs.declared.reading.faults.Key.{Key}
-use Rattle.rad_config.specs.declared.reading.faults.Key.TheVariants.{Listen, DefaultHome, Linger, Client, Home, Realm, Address, Secret, Name, Window, Queue, Book, Tries, FirstWait, ProbeEvery, DownWait, Span, Ring, Ports}
+use Rattle.rad_config.specs.declared.reading.faults.Key.TheVariants.{Listen, DefaultHome, OtherHome, Linger, Client, Home, Realm, Address, Secret, Name, Window, Queue, Book, Tries, FirstWait, ProbeEvery, DownWait, Span, Ring, Ports}
 use Rattle.rad_config.specs.declared.reading.faults.Spot.{Spot}
 use Rattle.rad_config.specs.declared.reading.faults.ConfigFault.{ConfigFault}
 use Rattle.rad_config.specs.declared.reading.faults.ConfigFault.TheVariants.{Toml, OutOfMemory, Missing, WrongType, OutOfRange, DoubleName, UnknownHome, BadAddress, TooMany}
@@ -123,6 +123,7 @@ type_hint p Realm = codes ": a table for each, under the header [[realm]]"
 type_hint p Home = home_type_hint p
 type_hint p Listen = codes ": a text in quotation marks"
 type_hint p DefaultHome = codes ": a text in quotation marks"
+type_hint p OtherHome = codes ": a text in quotation marks"
 type_hint p Address = codes ": a text in quotation marks"
 type_hint p Secret = codes ": a text in quotation marks"
 type_hint p Name = codes ": a text in quotation marks"

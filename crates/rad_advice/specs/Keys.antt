@@ -9,7 +9,7 @@ use Rattle.toml.specs.Parse.{parse_document}
 use Rattle.rad_config.specs.declared.reading.faults.Part.{Part}
 use Rattle.rad_config.specs.declared.reading.faults.Part.TheVariants as part
 use Rattle.rad_config.specs.declared.reading.faults.Key.{Key}
-use Rattle.rad_config.specs.declared.reading.faults.Key.TheVariants.{Listen, DefaultHome, Linger, Client, Home, Realm, Address, Secret, Name, Window, Queue, Book, Tries, FirstWait, ProbeEvery, DownWait, Span, Ring, Ports}
+use Rattle.rad_config.specs.declared.reading.faults.Key.TheVariants.{Listen, DefaultHome, OtherHome, Linger, Client, Home, Realm, Address, Secret, Name, Window, Queue, Book, Tries, FirstWait, ProbeEvery, DownWait, Span, Ring, Ports}
 use Rattle.rad_realms.specs.Spot.{key_name}
 use Rattle.rad_advice.specs.declared.unread.Unread.{Unread}
 use Rattle.rad_advice.specs.declared.unread.UnreadKey.{UnreadKey}
@@ -19,7 +19,7 @@ use Rattle.rad_advice.specs.Telling.{is_near_one_of}
 
 -- The keys that are read in the tables of a part.
 abbrev pub read_keys : Part → List Key
-read_keys part.Top = Listen ∷ DefaultHome ∷ Linger ∷ Client ∷ Home ∷ Realm ∷ []
+read_keys part.Top = Listen ∷ DefaultHome ∷ OtherHome ∷ Linger ∷ Client ∷ Home ∷ Realm ∷ []
 read_keys part.Client = Address ∷ Secret ∷ []
 read_keys part.Home = Name ∷ Address ∷ Secret ∷ Window ∷ Queue ∷ Book ∷ Tries ∷ FirstWait ∷ ProbeEvery ∷ DownWait ∷ Span ∷ Ring ∷ Ports ∷ []
 read_keys part.Realm = Name ∷ Home ∷ []

@@ -4,7 +4,8 @@ ghost use Rattle.std.specs.Prelude.{◌≡◌, ◌-◌, ◌<◌, ◌≤◌, ◌+
 ghost use Rattle.std.specs.List.{list_any};
 ghost use Rattle.std.specs.Str.{bytes_eq};
 ghost use Rattle.rad_realms.specs.Spot.{key_name};
-ghost use Rattle.rad_advice.specs.Doubts.{about, example_secrets, is_control as controls, secret_doubt as doubt_of, secret_doubts, client_doubts, leads_nowhere as nothing_leads, is_unused as unused, is_shared as shared, is_default as is_default_lane, home_doubts, realm_doubt as doubt_of_realm, realm_doubts, each_doubt, doubts_in, doubtful_told, IsWarnedIn};
+ghost use Rattle.rad_realms.specs.Realm.{same_name};
+ghost use Rattle.rad_advice.specs.Doubts.{about, example_secrets, is_control as controls, secret_doubt as doubt_of, secret_doubts, client_doubts, leads_nowhere as nothing_leads, is_unused as unused, is_shared as shared, is_default as is_default_lane, home_doubts, means_any as stands_for_any, realm_doubt as doubt_of_realm, realm_doubts, each_doubt, doubts_in, doubtful_told, IsWarnedIn};
 
 use crate::config_text::ConfigText;
 use crate::finding::find_key;
@@ -21,9 +22,9 @@ const MOST_LISTED: usize = 50;
 /// What is hardly meant. It is printed as one sentence.
 #[derive(Clone, Copy, PartialEq, Eq)]
 pub enum Doubt {
-    /// There is no realm and no default home server.
+    /// There is no realm, and no home server for requests without one or for all other realms.
     NoRealm,
-    /// No realm leads to the home server, and it is not the default.
+    /// No realm leads to the home server, and neither requests without one nor all other realms do.
     UnusedHome,
     /// An earlier home server has the same address and port.
     SharedAddress,
@@ -35,10 +36,14 @@ pub enum Doubt {
     ShortSecret,
     /// `span` is below 5000 ms.
     ShortSpan,
-    /// The realm's name is `*`.
+    /// The realm's name is `*`, or `DEFAULT` in letters of either case.
     AnyRealm,
+    /// The realm's name is `NULL` in letters of either case.
+    NullRealm,
     /// The realm's name begins with `/`.
     PatternRealm,
+    /// The realm's name begins with `~`.
+    TildeRealm,
     /// The realm's name ends with a dot.
     DottedRealm,
 }
@@ -56,7 +61,11 @@ impl Doubt {
             Doubt::SharedAddress => "shared-address",
             Doubt::ExampleSecret | Doubt::ControlSecret | Doubt::ShortSecret => "weak-secret",
             Doubt::ShortSpan => "short-span",
-            Doubt::AnyRealm | Doubt::PatternRealm | Doubt::DottedRealm => "realm-name",
+            Doubt::AnyRealm
+            | Doubt::NullRealm
+            | Doubt::PatternRealm
+            | Doubt::TildeRealm
+            | Doubt::DottedRealm => "realm-name",
         }
     }
 
@@ -74,7 +83,13 @@ impl Doubt {
             Doubt::ShortSecret => "it has fewer than 8 octets",
             Doubt::ShortSpan => "below 5000 ms, so a late repeat is sent on as a new request",
             Doubt::AnyRealm => {
-                "a realm of this name, not each realm: default_home serves names without a realm"
+                "a realm of this name, not each realm: other_home takes all that are not listed"
+            }
+            Doubt::NullRealm => {
+                "a realm of this name: default_home takes names without a realm, other_home all realms that are not listed"
+            }
+            Doubt::TildeRealm => {
+                "it begins with ~, but a realm is a name, not a pattern: other_home takes all that are not listed"
             }
             Doubt::PatternRealm => "it begins with /, but a realm is a name, not a pattern",
             Doubt::DottedRealm => "it ends with a dot, as hardly a user's realm does",
@@ -297,7 +312,7 @@ fn add_of_secret(
 fn leads_nowhere(config: &Config) -> bool
     ensures { result ≡ nothing_leads config.now }
 {
-    config.realms().is_empty() && config.lane_of(None).is_none()
+    config.realms().is_empty() && config.lane_of(None).is_none() && config.other_lane().is_none()
 }
 
 fn is_unused(config: &Config, lane: usize) -> bool
@@ -306,7 +321,9 @@ fn is_unused(config: &Config, lane: usize) -> bool
     if leads_nowhere(config) {
         return false;
     }
-    !has_realm(config.realms(), lane) && !is_default(config.lane_of(None), lane)
+    !has_realm(config.realms(), lane)
+        && !is_default(config.lane_of(None), lane)
+        && !is_default(config.other_lane(), lane)
 }
 
 fn is_default(default: Option<u16>, lane: usize) -> bool
@@ -382,15 +399,33 @@ fn realm_doubt(name: &[u8]) -> Option<Doubt>
     if name.is_empty() {
         return None;
     }
-    if name.len() == 1 && name[0] == b'*' {
+    if means_any(name) {
         Some(Doubt::AnyRealm)
+    } else if is_same_word(name, "null") {
+        Some(Doubt::NullRealm)
     } else if name[0] == b'/' {
         Some(Doubt::PatternRealm)
+    } else if name[0] == b'~' {
+        Some(Doubt::TildeRealm)
     } else if name[name.len() - 1] == b'.' {
         Some(Doubt::DottedRealm)
     } else {
         None
     }
+}
+
+/// Returns whether a name is one that other proxies take for all realms.
+fn means_any(name: &[u8]) -> bool
+    ensures { result ≡ stands_for_any name.now }
+{
+    is_same_word(name, "*") || is_same_word(name, "default")
+}
+
+/// Returns whether a name is this word, in letters of either case.
+fn is_same_word(name: &[u8], word: &str) -> bool
+    ensures { result ≡ same_name name.now word.now }
+{
+    name.eq_ignore_ascii_case(word.as_bytes())
 }
 
 /// For the proof: whether one of the realms leads to a lane.

@@ -45,7 +45,7 @@ fn type_hint(part: Part, key: Key) -> &'static str
         Key::Client => ": a table for each, under the header [[client]]",
         Key::Realm => ": a table for each, under the header [[realm]]",
         Key::Home if part == Part::Top => ": a table for each, under the header [[home]]",
-        Key::Home | Key::Listen | Key::DefaultHome => TEXT,
+        Key::Home | Key::Listen | Key::DefaultHome | Key::OtherHome => TEXT,
         Key::Address | Key::Secret | Key::Name => TEXT,
         _ => ": a whole number without quotation marks",
     }

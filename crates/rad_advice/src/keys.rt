@@ -12,6 +12,7 @@ pub(crate) fn names_of(part: Part) -> &'static [&'static str]
         Part::Top => &[
             "listen",
             "default_home",
+            "other_home",
             "linger",
             "client",
             "home",

@@ -1,11 +1,12 @@
 //! The worker of the clients' side.
 
-ghost use Rattle.std.specs.Prelude.{◌≡◌, ◌≤◌, ◌+◌, ◌*◌, ◌↔◌, length, IsTrue};
+ghost use Rattle.std.specs.Prelude.{◌≡◌, ◌≤◌, ◌+◌, ◌*◌, ◌↔◌, length, IsTrue, option_copied};
 ghost use Rattle.rad_realms.specs.Configuration.{Configuration};
 ghost use Rattle.rad_desk.specs.Calls.{Passes, AreAtMost};
 ghost use Rattle.rad_desk.specs.Once.{WorksInFront, SendsBack, SendsAnAnswer, Hands, Fits};
 ghost use Rattle.rad_desk.specs.HandOver.{KeepsTaken, HandsOver};
 ghost use Rattle.rad_desk.specs.Keeping.{Keeps};
+ghost use Rattle.rad_desk.specs.Reports.{realm_report};
 
 use crate::gate::{Call, Gate, Repeat, Worker, WorkerReport};
 use crate::handling::{Handled, handle};
@@ -138,13 +139,29 @@ fn tell_request<R, W: Wire, G: Gate>(
 ) {
     if let Incoming::Request(request) = incoming {
         let lane = request.lane();
-        if let Some(rank) = request.rank() {
-            shift.report(&WorkerReport::Requested { lane, rank });
+        if let Some(report) = report_of_realm(lane, request.realm(), request.rank()) {
+            shift.report(&report);
         }
         let marks = count_marks(request.packet());
         if marks > 0 {
             shift.report(&WorkerReport::Marked { lane, from, marks });
         }
+    }
+}
+
+/// Returns the report of a request for a lane by its realm, if it has one, which has this rank among those of the table
+/// that lead to the lane.
+fn report_of_realm<'a>(
+    lane: u16,
+    realm: Option<&[u8]>,
+    rank: Option<usize>,
+) -> Option<WorkerReport<'a>>
+    ensures { result ≡ realm_report lane (option_copied realm.entry) rank }
+{
+    match (realm, rank) {
+        (None, _) => None,
+        (Some(_), None) => Some(WorkerReport::RequestedUnlisted { lane }),
+        (Some(_), Some(rank)) => Some(WorkerReport::Requested { lane, rank }),
     }
 }
 

@@ -129,6 +129,10 @@ pub enum WorkerReport<'a> {
         lane: u16,
         rank: usize,
     },
+    /// The front received a request for a lane, by a realm that is in no row of the table of realms.
+    RequestedUnlisted {
+        lane: u16,
+    },
     /// A lane accepted a new request of the front's under this number, so its worker has something to send.
     Accepted {
         lane: u16,
@@ -219,6 +223,7 @@ impl WorkerReport<'_> {
             | WorkerReport::Sends { .. }
             | WorkerReport::Marked { .. }
             | WorkerReport::Requested { .. }
+            | WorkerReport::RequestedUnlisted { .. }
             | WorkerReport::Accepted { .. }
             | WorkerReport::Repeated { .. }
             | WorkerReport::Answered { .. }

@@ -80,6 +80,7 @@ impl Draft {
             counts: numbers.counts(),
             cells: numbers.homes.as_slice(),
             realms: config.realms(),
+            other_lane: config.other_lane(),
             realm_numbers: &numbers.realms,
             program: numbers.program(self.process),
             readings: self.readings.as_slice(),

@@ -36,7 +36,7 @@ pub struct Numbers<'a, R> {
     counts: Counts,
     /// The number of datagrams that came from senders that are not clients.
     strangers: AtomicU64,
-    /// How many requests came for each realm.
+    /// How many requests came for each realm, and for all others.
     pub(crate) realms: RealmNumbers,
     /// When the turn of each worker began, in microseconds since the start: the front's, then those of the lanes in order,
     /// `APART` words from one to the next.
@@ -85,6 +85,7 @@ impl<'a, R: Clock> Numbers<'a, R> {
         match *report {
             WorkerReport::Woke => self.begin_turn(row),
             WorkerReport::Requested { lane, rank } => self.realms.count(lane, rank),
+            WorkerReport::RequestedUnlisted { .. } => self.realms.count_unlisted(),
             _ => {}
         }
         if !is_of_home(report) {

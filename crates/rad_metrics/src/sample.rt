@@ -2,7 +2,7 @@
 //! its name.
 
 ghost use Rattle.std.specs.Prelude.{◌≡◌, ◌++◌};
-ghost use Rattle.rad_metrics.specs.Samples.{reason_key, labels_text};
+ghost use Rattle.rad_metrics.specs.Samples.{reason_key, labels_text, others_label};
 
 use crate::histogram::bound_label;
 use crate::reason::Reason;
@@ -24,6 +24,8 @@ pub enum Label<'a> {
     Home(usize, &'a str),
     /// A realm, by its name, which is printed as in a line of the log, and `\` as `%5c` too: so it needs no other escapes.
     Realm(&'a str),
+    /// All realms that are in no row of the table.
+    OtherRealms,
     /// Why, or what is repeated.
     Reason(Reason),
     /// The bound of this bucket, in seconds.
@@ -37,6 +39,23 @@ pub enum Label<'a> {
 /// The labels of a sample: its owner's, and another one.
 #[derive(Clone, Copy)]
 pub struct Labels<'a>(pub Option<Label<'a>>, pub Option<Label<'a>>);
+
+/// The labels of a lane: its number, and its home server's name.
+#[derive(Clone, Copy)]
+struct HomeLabels<'a>(usize, &'a str);
+
+impl fmt::Display for HomeLabels<'_> {
+    ghost use Rattle.std.specs.Prelude.{Some};
+    ghost use Rattle.rad_metrics.specs.Samples.{home_labels};
+
+    ghost output = { λ labels. Some (home_labels labels.0 labels.1.now) };
+
+    #[tactic(auto, unfolding(crate::specs::Samples::home_labels))]
+    fn fmt<W: fmt::Write>(&self, f: &mut fmt::Formatter<W>) -> fmt::Result {
+        let HomeLabels(lane, home) = *self;
+        write!(f, "lane=\"{lane}\",home=\"{home}\"")
+    }
+}
 
 impl fmt::Display for Label<'_> {
     ghost use Rattle.std.specs.Prelude.{Some};
@@ -52,7 +71,7 @@ impl fmt::Display for Label<'_> {
                 let address = AddressText(address);
                 write!(f, "client=\"{address}\"")
             }
-            Label::Home(lane, home) => write!(f, "lane=\"{lane}\",home=\"{home}\""),
+            Label::Home(lane, home) => HomeLabels(lane, home).fmt(f),
             Label::Realm(name) => {
                 let name = Escaped {
                     octets: name.as_bytes(),
@@ -60,6 +79,7 @@ impl fmt::Display for Label<'_> {
                 };
                 write!(f, "realm=\"{name}\"")
             }
+            Label::OtherRealms => f.write_str("realm=\"@other\""),
             Label::Reason(reason) => {
                 let key = key_of(reason);
                 let name = reason.name();
@@ -81,6 +101,16 @@ fn key_of(reason: Reason) -> &'static str
     match reason {
         Reason::Repeat(_) => "repeat",
         _ => "reason",
+    }
+}
+
+/// Returns the label of all realms that are in no row of the table, if they lead to a lane.
+pub(crate) fn label_of_others<'a>(lane: Option<u16>) -> Option<Label<'a>>
+    ensures { result ≡ others_label lane }
+{
+    match lane {
+        Some(_) => Some(Label::OtherRealms),
+        None => None,
     }
 }
 

@@ -12,7 +12,7 @@ use crate::ledger_metrics::write_ledger;
 use crate::metric::{Metric, metrics};
 use crate::program_metrics::{ProgramMetric, ProgramReading, VERSION};
 use crate::realm_numbers::{RealmNumbers, realms_of};
-use crate::sample::{Label, Labels, Sample};
+use crate::sample::{Label, Labels, Sample, label_of_others};
 use crate::socket_numbers::{SocketMetric, SocketReading};
 use crate::value::Value;
 use ledger_state::LedgerReading;
@@ -27,6 +27,8 @@ pub(crate) struct Known<'a> {
     pub(crate) homes: &'a [Home],
     pub(crate) counts: &'a Counts,
     pub(crate) realms: &'a [Realm],
+    /// The lane of all other realms, if there is one.
+    pub(crate) other_lane: Option<u16>,
     pub(crate) realm_numbers: &'a RealmNumbers,
     pub(crate) cells: &'a [HomeCell],
     pub(crate) program: ProgramReading,
@@ -155,7 +157,8 @@ fn write_row(
     Ok(())
 }
 
-/// Writes how many requests came for each realm, in the order of the configuration.
+/// Writes how many requests came for each realm, in the order of the configuration, and then, if they lead anywhere, for
+/// all other realms.
 fn write_realms(to: &mut Adding<'_>, known: &Known<'_>) -> io::Result<()> {
     to.begin()?;
     for (place, realm) in known.realms.iter().enumerate() {
@@ -166,7 +169,10 @@ fn write_realms(to: &mut Adding<'_>, known: &Known<'_>) -> io::Result<()> {
             .get(lane, realms_of(before, usize::from(lane)));
         to.add(Some(Label::Realm(realm.name())), Value::Count(count))?;
     }
-    Ok(())
+    match label_of_others(known.other_lane) {
+        Some(label) => to.add(Some(label), Value::Count(known.realm_numbers.unlisted())),
+        None => Ok(()),
+    }
 }
 
 /// Writes a metric of each home server of which something was read.

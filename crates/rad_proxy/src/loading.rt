@@ -6,7 +6,7 @@ ghost use Rattle.rad_proxy.specs.Configurations.{IsLoaded};
 use crate::faults::Fault;
 use crate::file_name::FileName;
 use crate::machine::Host;
-use crate::reasons::{tell_doubts, tell_faults, tell_file, tell_homes, tell_text};
+use crate::reasons::{tell_doubts, tell_faults, tell_file, tell_homes, tell_other_home, tell_text};
 use rad_addresses::read_local_addresses;
 use rad_files::{MOST_FILE_OCTETS, read_at_most};
 use rad_log::Log;
@@ -66,6 +66,7 @@ pub fn load_text<R: Read + Drop, L: Log>(
     match text.configuration(alloc) {
         Ok(config) => {
             tell_doubts(alloc, log, &text, &config);
+            tell_other_home(log, &config);
             Ok(config)
         }
         Err(fault) => {

@@ -1,9 +1,10 @@
 //! Why the program ends, and what an operator should know of a configuration: log lines before the line of a fault.
 
-ghost use Rattle.std.specs.Prelude.{◌≡◌, ◌≢◌, IfOk, IsUtf8};
+ghost use Rattle.std.specs.Prelude.{◌≡◌, ◌≢◌, IfOk, IsUtf8, option_map};
+ghost use Rattle.rad_proxy.specs.Reasons.{name_of_other_home};
 
 use rad_advice::{ConfigText, TextFault, advise_homes, fault_reports, list_warnings, unread_keys};
-use rad_log::{Escaped, Log, tell_error, tell_reason, tell_warning, warn_of_reason};
+use rad_log::{Escaped, Level, Log, tell, tell_error, tell_reason, tell_warning, warn_of_reason};
 use rad_realms::{Config, ConfigFault};
 use std::alloc::Global;
 use std::fmt::{self, Display};
@@ -108,6 +109,24 @@ impl Display for MoreLine {
     }
 }
 
+/// The log line of the home server, of this name, to which all realms lead that are not listed.
+#[derive(Clone, Copy)]
+struct OtherHomeLine<'a> {
+    home: &'a str,
+}
+
+impl Display for OtherHomeLine<'_> {
+    ghost use Rattle.std.specs.Prelude.{Some};
+    ghost use Rattle.rad_proxy.specs.Reasons.{other_home_line};
+
+    ghost output = { λ line. Some (other_home_line line) };
+
+    fn fmt<W: fmt::Write>(&self, f: &mut fmt::Formatter<W>) -> fmt::Result {
+        let home = self.home;
+        write!(f, "event=other-home home={home}")
+    }
+}
+
 /// Logs why the file of this path can't be read.
 pub fn tell_file<L: Log>(log: &L, path: &str, error: &Error) {
     tell_error(log, &FileLine { path, error });
@@ -168,6 +187,21 @@ pub fn tell_doubts<L: Log>(alloc: Global, log: &L, text: &ConfigText<'_>, config
         }
         tell_more(log, Told::Warnings, warnings.more());
     }
+}
+
+/// Logs to which home server all realms lead that are not listed, if to one.
+pub fn tell_other_home<L: Log>(log: &L, config: &Config) {
+    if let Some(home) = other_home(config) {
+        tell(log, Level::Info, &OtherHomeLine { home });
+    }
+}
+
+fn other_home(config: &Config) -> Option<&str>
+    ensures { option_map (λ name. name.now) result ≡ name_of_other_home config.now }
+{
+    let lane = config.other_lane()?;
+    let home = config.homes().get(usize::from(lane))?;
+    Some(home.name())
 }
 
 fn tell_more<L: Log>(log: &L, told: Told, count: usize) {

@@ -33,6 +33,8 @@ pub struct Books {
     pub books: Vec<Book>,
     /// The place of the lane that a request without a realm leads to.
     pub default: Option<usize>,
+    /// The place of the lane that all realms lead to that are not listed.
+    pub other: Option<usize>,
 }
 
 impl Books {
@@ -97,12 +99,15 @@ impl Books {
         let Some(realm) = realm_of(first_value(packet, USER_NAME).unwrap_or(&[])) else {
             return self.default;
         };
+        if realm.is_empty() {
+            return None;
+        }
         for (place, book) in self.books.as_slice().iter().enumerate() {
-            if realm.eq_ignore_ascii_case(realm_of_home(book.lane).as_bytes()) {
+            if is_realm_of(book, realm) {
                 return Some(place);
             }
         }
-        None
+        self.other
     }
 
     /// Expects that a request is passed to its lane.
@@ -153,9 +158,14 @@ fn accept(
     if !walk.asks(Call::Accept, Rule::ACCEPT) {
         return false;
     }
-    if realm_of(first_value(packet, USER_NAME).unwrap_or(&[])).is_some() {
-        // Each lane has one realm.
-        walk.meets(Sign::Requested(book.lane, 0), &[], Rule::REQUESTED);
+    if let Some(realm) = realm_of(first_value(packet, USER_NAME).unwrap_or(&[])) {
+        // Each lane has one realm in the table.
+        let sign = if is_realm_of(book, realm) {
+            Sign::Requested(book.lane, 0)
+        } else {
+            Sign::RequestedUnlisted(book.lane)
+        };
+        walk.meets(sign, &[], Rule::REQUESTED);
     }
     let marks = marks_of(packet);
     if marks > 0 {
@@ -225,6 +235,11 @@ fn answer(socket: u16, client: Endpoint, octets: &[u8], rule: Rule, walk: &mut W
         walk.keeps(Rule::LISTEN_SOCKET, gone.socket == socket);
         walk.counts(gone);
     }
+}
+
+/// Returns whether a realm is the one that is listed for a lane.
+fn is_realm_of(book: &Book, realm: &[u8]) -> bool {
+    realm.eq_ignore_ascii_case(realm_of_home(book.lane).as_bytes())
 }
 
 /// Returns the part of a name after its last `@`.

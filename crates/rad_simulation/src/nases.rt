@@ -126,8 +126,13 @@ fn spoil(mail: &mut Mail, chance: &mut Chance) -> Result<(), Rule> {
     Ok(())
 }
 
-/// Adds a User-Name, in most cases in a realm that leads to a home server.
+/// Adds a User-Name, in most cases in a realm that leads to a home server. Where one takes all realms that are not listed,
+/// every fourth name has such a realm.
 fn push_name(draft: &mut Datagram, chance: &mut Chance, setting: &Setting) {
+    if setting.other.is_some() && chance.is_one_in(4) {
+        push_unlisted(draft, chance);
+        return;
+    }
     match chance.below(40) {
         0 => push(draft, USER_NAME, b"bob"),
         1 => push(draft, USER_NAME, b"bob@"),
@@ -138,6 +143,16 @@ fn push_name(draft: &mut Datagram, chance: &mut Chance, setting: &Setting) {
             let place = chance.below(setting.homes.len() as u64);
             push_name_in(draft, realm_of_home((place & 3) as u16));
         }
+    }
+}
+
+/// Adds a User-Name in a realm that is not listed, or is listed only where there are enough home servers.
+fn push_unlisted(draft: &mut Datagram, chance: &mut Chance) {
+    match chance.below(4) {
+        0 => push_name_in(draft, "third.net"),
+        1 => push_name_in(draft, "example.org."),
+        2 => push(draft, USER_NAME, b"a@example.org@sub.other.org"),
+        _ => push(draft, USER_NAME, b"@*"),
     }
 }
 

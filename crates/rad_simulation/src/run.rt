@@ -102,7 +102,12 @@ fn books_of(alloc: Global, setting: &Setting) -> Result<Books, Rule> {
         books.push(Book::new(alloc, (lane & 0xffff) as u16, home))?;
     }
     let default = if setting.has_default { Some(0) } else { None };
-    Ok(Books { books, default })
+    let other = setting.other.map(usize::from);
+    Ok(Books {
+        books,
+        default,
+        other,
+    })
 }
 
 fn close(alloc: Global, proxy: Proxy, inlets: Vec<Inlet>, books: &[Book]) -> Result<(), Rule> {

@@ -59,6 +59,8 @@ pub struct Setting {
     pub homes: Vec<Home>,
     /// Whether a request without a realm leads to the first home server.
     pub has_default: bool,
+    /// The home server to which all realms lead that are not listed, if there is one.
+    pub other: Option<u16>,
     /// Whether requests come as fast as they are answered, so that Identifiers are used again.
     pub is_hurried: bool,
     /// One datagram in `losses` is lost, and one in `losses` is duplicated; 0 for none.
@@ -81,6 +83,7 @@ impl Setting {
         let mut setting = Setting {
             homes: Vec::new(alloc),
             has_default: chance.is_one_in(2),
+            other: None,
             is_hurried,
             losses: if is_calm { 0 } else { chance.between(5, 20) },
             faults: if is_calm { 0 } else { chance.between(10, 60) },
@@ -95,6 +98,9 @@ impl Setting {
         let homes = if is_hurried { 1 } else { chance.between(1, 3) };
         for place in 0..homes {
             setting.add_home((place & 3) as u16, chance)?;
+        }
+        if chance.is_one_in(3) {
+            setting.other = Some((chance.below(homes) & 3) as u16);
         }
         Ok(setting)
     }
@@ -124,6 +130,9 @@ impl fmt::Display for Setting {
         f.write_str("listen = \"127.0.0.1:1813\"\n")?;
         if self.has_default {
             f.write_str("default_home = \"h0\"\n")?;
+        }
+        if let Some(place) = self.other {
+            writeln!(f, "other_home = \"h{place}\"")?;
         }
         f.write_str(CLIENTS)?;
         for (place, home) in self.homes.as_slice().iter().enumerate() {

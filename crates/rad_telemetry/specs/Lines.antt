@@ -1,5 +1,5 @@
 -- The log lines of sums and of a home server that is marked up, without their line feeds, and the other end of a datagram as log lines have it (own).
-use Rattle.std.specs.Prelude.{ℕ, List, ◌++◌, codes}
+use Rattle.std.specs.Prelude.{ℕ, nat_lt, Bool, true, false, ◌||◌, List, ◌++◌, codes}
 use Rattle.std.specs.Fmt.{decimal}
 use Rattle.rad_config.specs.declared.reading.address.Endpoint.{Endpoint}
 use Rattle.rad_realms.specs.Printed.{address_text}
@@ -74,6 +74,18 @@ line_of metric name sum = fault_sum (event_word metric) name sum.count
 
 abbrev pub sum_line : List ℕ → Sum → List ℕ
 sum_line name sum = line_of sum.event.metric name sum
+
+-- Whether a sum is logged as a warning, given whether all other realms lead to a lane too: refusals and faults are; and
+-- requests with Proxy-States of this proxy's own form if one had more than one, or if all other realms lead to a lane.
+abbrev pub warns_of : Counted → Bool → ℕ → Bool
+warns_of Refused takes_all most = true
+warns_of SendFaults takes_all most = true
+warns_of ReceiveFaults takes_all most = true
+warns_of Marked takes_all most = takes_all || nat_lt 1 most
+warns_of metric takes_all most = false
+
+abbrev pub is_warning : Sum → Bool → Bool
+is_warning sum takes_all = warns_of sum.event.metric takes_all sum.most_marks
 
 -- A home server that is marked up, and why.
 abbrev pub up_line : UpLine → List ℕ

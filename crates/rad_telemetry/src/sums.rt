@@ -1,6 +1,7 @@
 //! Logging the sums: what was counted of each worker and each event since the last time.
 
 ghost use Rattle.std.specs.Prelude.{◌≡◌, ◌-◌};
+ghost use Rattle.rad_telemetry.specs.Lines.{is_warning};
 
 use crate::last_realm::LastRealm;
 use crate::lines::{Sum, SumLine};
@@ -76,10 +77,11 @@ impl Sums {
 
     /// Logs what was counted since the last call: one line for each worker and each event of which there was any.
     pub(crate) fn log<L: Log>(&self, log: &L, config: &Config, counts: &Counts) {
+        let takes_all = config.other_lane().is_some();
         for row in 0..=config.homes().len() {
             let name = worker_name(config, row);
             for metric in SUMMED {
-                self.log_metric(log, name, row, *metric, counts);
+                self.log_metric(log, name, row, *metric, takes_all, counts);
             }
         }
     }
@@ -90,12 +92,13 @@ impl Sums {
         name: &str,
         row: usize,
         metric: Counted,
+        takes_all: bool,
         counts: &Counts,
     ) {
         for place in 0..metric.width() {
             if let Some(reason) = metric.reason_at(place) {
                 if let Some(sum) = self.take(row, CountedEvent { metric, reason }, counts) {
-                    self.log_sum(log, name, sum);
+                    self.log_sum(log, name, sum, takes_all);
                 }
             }
         }
@@ -116,8 +119,12 @@ impl Sums {
     }
 
     /// Logs a sum; after drops for their realms follows the realm of the last one.
-    fn log_sum<L: Log>(&self, log: &L, name: &str, sum: Sum) {
-        let level = level_of(sum);
+    fn log_sum<L: Log>(&self, log: &L, name: &str, sum: Sum, takes_all: bool) {
+        let level = if is_warned_of(sum, takes_all) {
+            Level::Warn
+        } else {
+            Level::Info
+        };
         let line = SumLine { name, sum };
         match sum.event.reason {
             Reason::Dropped(Dropped::NoRealm) => {
@@ -129,13 +136,16 @@ impl Sums {
     }
 }
 
-/// Returns the level of a sum. Behind one other proxy a request has one Proxy-State of this proxy's form; more of them
-/// indicate a loop.
-fn level_of(sum: Sum) -> Level {
+/// Returns whether a sum is a warning, given whether all other realms lead to a lane too. Behind one other proxy a request
+/// has one Proxy-State of this proxy's form; more of them indicate a loop. Two proxies that send all other realms to each
+/// other make one, so there the first is warned of.
+fn is_warned_of(sum: Sum, takes_all: bool) -> bool
+    ensures { result ≡ is_warning sum takes_all }
+{
     match sum.event.metric {
-        Counted::Refused | Counted::SendFaults | Counted::ReceiveFaults => Level::Warn,
-        Counted::Marked if sum.most_marks > 1 => Level::Warn,
-        _ => Level::Info,
+        Counted::Refused | Counted::SendFaults | Counted::ReceiveFaults => true,
+        Counted::Marked => takes_all || sum.most_marks > 1,
+        _ => false,
     }
 }
 

@@ -16,6 +16,8 @@ returns c =
     let listen = slots_are _ _ (ap (λ (x : Endpoint). (codes "listen", Some (string (endpoint_text x))) ∷ []) c.listen-listen.ensures) c.in_ok-endpoint.ensures in
     let default = slots_are _ _ (ap (λ (x : Option ℕ). (codes "default_home", name_at config.homes x) ∷ []) c.lane_of-default.ensures.lane)
     (slots_are _ _ (ap (λ (x : List HomeEntry). (codes "default_home", name_at x c.lane_of-default.result) ∷ []) c.homes-homes.ensures.value) c.in_ok-home_name_if_any.ensures) in
+    let other = slots_are _ _ (ap (λ (x : Option ℕ). (codes "other_home", name_at config.homes x) ∷ []) c.other_lane-other.ensures.value)
+    (slots_are _ _ (ap (λ (x : List HomeEntry). (codes "other_home", name_at x c.other_lane-other.result) ∷ []) c.homes-homes.ensures.value) c.in_ok-home_name_if_any-2.ensures) in
     let linger = slots_are _ _ (ap (λ (x : ℕ). (codes "linger", Some (number_value x)) ∷ []) c.linger-linger.ensures) c.in_ok-number.ensures in
     let clients = listed (client_value asked) c.number.new.writer c.key.new.self c.write_clients.new.writer (codes "client") c.clients-clients.result.now config.clients c.clients-clients.ensures.value
     c.in_ok-key.ensures.room.0 c.in_ok-key.ensures.ok c.in_ok-write_clients.ensures in
@@ -25,4 +27,4 @@ returns c =
     c.in_ok-key-3.ensures.room.0 c.in_ok-key-3.ensures.ok c.in_ok-write_realms.ensures in
     let told = slots_are _ _ (ap (λ (x : List HomeEntry). (codes "realm", Some (array (items_of (realm_value x) config.realms))) ∷ []) c.homes-homes.ensures.value) realms in
     closes c.end_object.result c.args.writer.now c.write_realms.new.writer c.end_object.new.self (config_slots asked config)
-    (opens_then (opens_then (opens_then (opens_then (opens_then (opens_then first listen) default) linger) clients) homes) told) c.end_object.ensures
+    (opens_then (opens_then (opens_then (opens_then (opens_then (opens_then (opens_then first listen) default) other) linger) clients) homes) told) c.end_object.ensures
