@@ -149,7 +149,8 @@ def misplacements(port):
         yield "two home servers' name", named + named[named.index("[[home]]"):], secret
         yield "two realms' name", whole.replace("example.org", secret) + f'[[realm]]\nname = "{secret.swapcase()}"\nhome = "h1"\n', secret
         yield "a realm's home", whole.replace('home = "h1"', f'home = "{secret}"'), secret
-        yield "default_home", f'default_home = "{secret}"\n' + whole, secret
+        for key in ("default_home", "other_home"):
+            yield key, f'{key} = "{secret}"\n' + whole, secret
         yield "linger", whole.replace("linger = 0", f'linger = "{secret}"'), secret
         yield "window", whole + f'window = "{secret}"\n', secret
         yield "client", whole.replace("[[client]]", f'client = "{secret}"\n[[clients]]'), secret

@@ -140,10 +140,14 @@ def faults():
     yield "one bracket", 'listen = "0.0.0.0:1813"\n[client]\naddress = "10.0.0.1"\n' + HOME + "[realm]\n", [
         "WrongType at top client at line 2, column 2: a table for each, under the header [[client]]",
         "WrongType at top realm at line 8, column 2: a table for each, under the header [[realm]]"]
-    yield "no quotation marks", LISTEN + "default_home = 1\nlinger = true\nhome = 7\n" + CLIENT, [
+    yield "no quotation marks", LISTEN + "default_home = 1\nlinger = true\nhome = 7\nother_home = 8\n" + CLIENT, [
         "WrongType at top default_home at line 2, column 1: 1: a text in quotation marks",
+        "WrongType at top other_home at line 5, column 1: 8: a text in quotation marks",
         "WrongType at top linger at line 3, column 1: a whole number without quotation marks",
         "WrongType at top home at line 4, column 1: 7: a table for each, under the header [[home]]"]
+    yield "no home server of these names", 'other_home = "h2"\n' + LISTEN + 'default_home = "h3"\n' + CLIENT + HOME + REALM, [
+        "UnknownHome at top default_home at line 3, column 1: no [[home]] has this name",
+        "UnknownHome at top other_home at line 1, column 1: no [[home]] has this name"]
     yield "seconds", LISTEN + "linger = 600001\n" + CLIENT + HOME + REALM, [
         "OutOfRange at top linger at line 2, column 1: 600001: 0 to 600000"]
     yield "too many", LISTEN + CLIENT + HOME + lines(f'[[realm]]\nname = "r{n}"\nhome = "h1"' for n in range(257)), [
@@ -200,10 +204,12 @@ def hardly_meant():
     yield "no realm and no default", LISTEN + CLIENT + HOME, nowhere
     yield "an array of no realms", LISTEN + "realm = []\n" + CLIENT + HOME, [nowhere[0].replace("realm:", "realm at line 2, column 1:")]
     yield "a default alone", LISTEN + 'default_home = "h1"\n' + CLIENT + HOME, []
+    yield "one for all other realms alone", LISTEN + 'other_home = "h1"\n' + CLIENT + HOME, []
     spare = '[[home]]\nname = "h2"\naddress = "127.0.0.1:2814"\nsecret = "long enough"\n'
     unused = warning("unused-home", "home 1 name at line 13, column 1: no realm and no default_home lead to it")
     yield "a home server that nothing leads to", whole + spare, [unused]
     yield "one that is the default", 'default_home = "h2"\n' + whole + spare, []
+    yield "one for all other realms", 'other_home = "h2"\n' + whole + spare, []
     yield "the first one", 'default_home = "h2"\n' + LISTEN + CLIENT + HOME + spare, [
         unused.replace("home 1", "home 0").replace("line 13", "line 7")]
     lead = '[[realm]]\nname = "example.net"\nhome = "h2"\n'
