@@ -63,7 +63,7 @@ def short(found):
         "home": [(one["name"], one["address"], one["secret"]) for one in found["home"]],
         "realm": [(one["name"], one["home"]) for one in found.get("realm", [])],
     }
-    return made | ({"default": found["default_home"]} if "default_home" in found else {})
+    return made | {key.removesuffix("_home"): found[key] for key in ("default_home", "other_home") if key in found}
 
 
 def hope_told(told, wanted, file):
@@ -489,9 +489,9 @@ def freeradius_turned_on(program, room):
     hope("status", (status, status == 3 or told), (3, True))
     found = short(checked(program, out, room))
     hope("the home server", found["home"], [("192.0.2.77", "192.0.2.77:1601", "testing123")])
-    hope("without a realm", found["default"], "192.0.2.77")
+    hope("without a realm, and of each realm", (found["default"], found["other"]), ("192.0.2.77", "192.0.2.77"))
     hope("a client", ("127.0.0.1", "testing123") in found["client"], True)
-    for part in ("a block of addresses", "IPv6", "a pattern", "no catch-all", "host name", "one list of clients", "nostrip", "virtual"):
+    for part in ("a block of addresses", "IPv6", "a pattern", "empty realm", "host name", "one list of clients", "nostrip", "virtual"):
         hope(part, any(part in line for line in told) or told, True)
 
 
