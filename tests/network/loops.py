@@ -14,6 +14,8 @@ from tests.lib import SECRET, Home, Proxy, answer, bound, free_ports, hope, is_s
 # The greatest Length of a request that is forwarded, and the octets of the Proxy-State that it gets.
 GREATEST, STATE = 4084, 12
 UNLISTED = b"bob@nowhere.example"
+# The default of `window`.
+WINDOW = 64
 # Nothing is sent again in a test of this wait.
 LONG_WAIT, QUIET = "first_wait = 60000\n", 2.5
 
@@ -89,12 +91,12 @@ def ends_when_it_is_too_long(program, folder):
 
 
 def fills_both_windows(program, folder):
-    """With smaller windows it stands still when both are full, and what is listed is answered."""
-    with Round(program, folder, f"window = 20\n{LONG_WAIT}") as both:
+    """With the default windows it stands still when both are full, and what is listed is answered."""
+    with Round(program, folder, LONG_WAIT) as both:
         both.ask(both.two[0], UNLISTED)
-        hope("accepted", both.came_to_rest(41), 41)
-        hope("by both in turn", both.counts("accepted_total"), [21, 20])
-        hope("sent", both.counts("sent_total"), [20, 20])
+        hope("accepted", both.came_to_rest(2 * WINDOW + 1), 2 * WINDOW + 1)
+        hope("by both in turn", both.counts("accepted_total"), [WINDOW + 1, WINDOW])
+        hope("sent", both.counts("sent_total"), [WINDOW, WINDOW])
         hope("a listed realm is answered", [both.is_answered(proxy) for proxy in both.two], [True, True])
 
 
