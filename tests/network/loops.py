@@ -101,7 +101,7 @@ def fills_both_windows(program, folder):
 
 
 def is_sent_again_for_ever(program, folder):
-    """What went round stays outstanding: it is sent again, and a probe that is answered marks the other one up again. It is not accepted anew."""
+    """What went round stays outstanding: it is sent again, and a probe that is answered marks the other one up. None is accepted anew."""
     with Round(program, folder, "window = 20\nfirst_wait = 100\ntries = 2\nprobe_every = 1000\n") as both:
         both.ask(both.two[0], UNLISTED)
         hope("accepted", both.came_to_rest(41), 41)

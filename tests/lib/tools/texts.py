@@ -1,8 +1,8 @@
 """Texts of radsecproxy and FreeRADIUS, each with what rad_convert has to write and to tell of it.
 
 A row is a name, the text, the lines that are told (each the number of a line and a part of what it says), and what the configuration
-has: clients, home servers and realms as short pairs, and the home servers of requests without a realm and of all other realms. None stands for a text of which
-nothing can be written.
+has: clients, home servers and realms as short pairs, and the home servers of requests without a realm and of all other realms. None
+stands for a text of which nothing can be written.
 """
 
 # A client, a home server and a realm, for the texts that are about something else. Seven lines, eight and three.
