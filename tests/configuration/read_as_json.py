@@ -41,8 +41,7 @@ def tables_of(text, has_secrets):
     """What has to be printed of a text without a fault, by Python's reader."""
     top = tomllib.loads(text)
     found = {"listen": top["listen"], "linger": top.get("linger", 5000)}
-    if "default_home" in top:
-        found["default_home"] = top["default_home"]
+    found |= {key: top[key] for key in ("default_home", "other_home") if key in top}
     found["client"] = [table_of(it, ["address"], has_secrets) for it in top["client"]]
     found["home"] = [table_of(it, ["name", "address"], has_secrets) | {key: it.get(key, least) for key, least in NUMBERS.items()}
                      for it in top["home"]]

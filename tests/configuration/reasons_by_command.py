@@ -32,7 +32,7 @@ class Trial(trying.Trial):
     """The program, and what it tells."""
 
     def run(self):
-        for part in (faulty, unread, many, misplaced, homes, files, sockets):
+        for part in (faulty, unread, many, misplaced, homes, others, files, sockets):
             part(self, self.folder)
 
     def ended(self, *words, log=None, given=b""):
@@ -149,7 +149,8 @@ def misplacements(port):
         yield "two home servers' name", named + named[named.index("[[home]]"):], secret
         yield "two realms' name", whole.replace("example.org", secret) + f'[[realm]]\nname = "{secret.swapcase()}"\nhome = "h1"\n', secret
         yield "a realm's home", whole.replace('home = "h1"', f'home = "{secret}"'), secret
-        yield "default_home", f'default_home = "{secret}"\n' + whole, secret
+        for key in ("default_home", "other_home"):
+            yield key, f'{key} = "{secret}"\n' + whole, secret
         yield "linger", whole.replace("linger = 0", f'linger = "{secret}"'), secret
         yield "window", whole + f'window = "{secret}"\n', secret
         yield "client", whole.replace("[[client]]", f'client = "{secret}"\n[[clients]]'), secret
@@ -201,6 +202,21 @@ def homes(trial, folder):
         trial.compare(f"check, {home}", trial.ended("check", file), (0, COUNTS, ""))
         trial.compare(f"check with a log, {home}", trial.ended("check", file, log="warn"), (0, COUNTS, told))
         trial.compare(f"run, {home}", trial.ended("run", file, log="warn")[2], told)
+
+
+def others(trial, folder):
+    """`check` says where realms that are not listed go, if they go anywhere, and `run` too."""
+    port = free_port()
+    for what, top, told in (("nowhere", "", ""), ("to the default alone", 'default_home = "h1"\n', ""),
+                            ("to one", 'other_home = "h1"\n', "level=info event=other-home home=h1\n"),
+                            ("to the default", 'default_home = "h1"\nother_home = "h1"\n', "level=info event=other-home home=h1\n")):
+        file = folder / "others.toml"
+        file.write_bytes(configuration(f"{HERE}:{port}", top=top))
+        trial.compare(f"check, other realms lead {what}", trial.ended("check", file), (0, COUNTS, ""))
+        trial.compare(f"check with a log, other realms lead {what}", trial.ended("check", file, log="info"), (0, COUNTS, told))
+        trial.compare(f"check with warnings, other realms lead {what}", trial.ended("check", file, log="warn"), (0, COUNTS, ""))
+        lines = trial.ended("run", file, log="info")[2].splitlines(keepends=True)
+        trial.compare(f"run, other realms lead {what}", "".join(line for line in lines if "other-home" in line), told)
 
 
 def reason_before(trial, name, told, fixed):

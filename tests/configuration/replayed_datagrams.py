@@ -43,8 +43,8 @@ name = "third"
 home = "h1"
 """
 
-# The second home server is the default one.
-DEFAULT = 'default_home = "h2"\n'
+# The second home server is the default one, or that of the realms that are not listed.
+DEFAULT, OTHER = 'default_home = "h2"\n', 'other_home = "h2"\n'
 
 NAS, OTHER_NAS, STRANGER = "10.0.0.1", "9.255.0.1", "10.0.0.9"
 SEVENTH = packets.of_lanes()["SEVENTH"]
@@ -104,6 +104,21 @@ def with_a_default():
     ])
 
 
+def with_one_for_other_realms():
+    """Where there is a home server for realms that are not listed, it takes these, and a realm of the table leads to its own."""
+    listed = [("the third realm", NAS, named(b"a@THIRD"), "new 0 0"), ("the second realm", NAS, named(b"x@eXAMPLE.org"), "new 1 0"),
+              ("a listed realm before the last sign", NAS, named(b"a@third@x"), "new 1 0"),
+              ("a listed realm behind the last sign", NAS, named(b"a@x@third"), "new 0 0"),
+              ("an empty realm", NAS, FAULTY["EMPTY_REALM"], "dropped NoRealm"), ("a sign alone", NAS, named(b"@"), "dropped NoRealm"),
+              ("an unlisted realm", NAS, FAULTY["UNLISTED"], "new 1 0"), ("the longest one", NAS, named(b"@" + b"z" * 252), "new 1 0"),
+              ("one of NUL", NAS, named(b"a@\0"), "new 1 0"), ("one that is no UTF-8", NAS, named(b"a@\xc3\x28"), "new 1 0"),
+              ("a listed one and NUL", NAS, named(b"a@third\0"), "new 1 0"), ("half of a listed one", NAS, named(b"a@thir"), "new 1 0")]
+    bare = [("no realm", NAS, FAULTY["BARE"]), ("no name", NAS, FAULTY["NAMELESS"]), ("a listed realm as a name", NAS, named(b"third"))]
+    yield from each_alone(OTHER + TEXT, [*listed, *((*row, "dropped NoRealm") for row in bare)])
+    yield from each_alone(OTHER + DEFAULT.replace("h2", "h1") + TEXT, [*listed, *((*row, "new 0 0") for row in bare)])
+    yield from each_alone(OTHER + DEFAULT + TEXT, [*listed, *((*row, "new 1 0") for row in bare)])
+
+
 def every_client_and_realm():
     """The largest configuration: each of its clients is found, and each of its realms leads to its lane."""
     text, secrets = sized(256, 64, 256), [f"s{number}".encode() for number in range(256)]
@@ -112,8 +127,11 @@ def every_client_and_realm():
     yield "one client more", text, [("10.0.1.0", 1, b"\x04")], ["nas: dropped UnknownClient"]
     asked = [(f"10.0.0.{number}", 1, named(b"someone@r%d" % number, secrets[number])) for number in range(256)]
     yield "each realm", text, asked, [f"nas: new {number % 64} {number // 64}" for number in range(256)]
-    for what, name in (("one realm more", b"someone@r256"), ("the longest empty realm", b"@" * 253)):
-        yield what, text, [("10.0.0.0", 1, named(name, secrets[0]))], ["nas: dropped NoRealm"]
+    for what, name, other in (("one realm more", b"someone@r256", "new 63 0"), ("the longest empty realm", b"@" * 253, "dropped NoRealm")):
+        one = [("10.0.0.0", 1, named(name, secrets[0]))]
+        yield what, text, one, ["nas: dropped NoRealm"]
+        yield f"{what}, and one for others", 'other_home = "h63"\n' + text, one, [f"nas: {other}"]
+    yield "each realm, and one for others", 'other_home = "h63"\n' + text, asked, [f"nas: new {number % 64} {number // 64}" for number in range(256)]
 
 
 # How many octets secrets have below, at and above the length of a block of MD5, and what they are made of.
@@ -132,7 +150,7 @@ def statuses_of_many_lengths():
         yield f"a secret of {length} octets", text, [(NAS, 40_000, octets) for octets in statuses + spoiled], lines
 
 
-DATAGRAMS = [reasons, with_a_default, every_client_and_realm, statuses_of_many_lengths]
+DATAGRAMS = [reasons, with_a_default, with_one_for_other_realms, every_client_and_realm, statuses_of_many_lengths]
 
 
 # Conversations.

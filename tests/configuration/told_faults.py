@@ -140,10 +140,14 @@ def faults():
     yield "one bracket", 'listen = "0.0.0.0:1813"\n[client]\naddress = "10.0.0.1"\n' + HOME + "[realm]\n", [
         "WrongType at top client at line 2, column 2: a table for each, under the header [[client]]",
         "WrongType at top realm at line 8, column 2: a table for each, under the header [[realm]]"]
-    yield "no quotation marks", LISTEN + "default_home = 1\nlinger = true\nhome = 7\n" + CLIENT, [
+    yield "no quotation marks", LISTEN + "default_home = 1\nlinger = true\nhome = 7\nother_home = 8\n" + CLIENT, [
         "WrongType at top default_home at line 2, column 1: 1: a text in quotation marks",
+        "WrongType at top other_home at line 5, column 1: 8: a text in quotation marks",
         "WrongType at top linger at line 3, column 1: a whole number without quotation marks",
         "WrongType at top home at line 4, column 1: 7: a table for each, under the header [[home]]"]
+    yield "no home server of these names", 'other_home = "h2"\n' + LISTEN + 'default_home = "h3"\n' + CLIENT + HOME + REALM, [
+        "UnknownHome at top default_home at line 3, column 1: no [[home]] has this name",
+        "UnknownHome at top other_home at line 1, column 1: no [[home]] has this name"]
     yield "seconds", LISTEN + "linger = 600001\n" + CLIENT + HOME + REALM, [
         "OutOfRange at top linger at line 2, column 1: 600001: 0 to 600000"]
     yield "too many", LISTEN + CLIENT + HOME + lines(f'[[realm]]\nname = "r{n}"\nhome = "h1"' for n in range(257)), [
@@ -177,6 +181,9 @@ def told_faults():
 SECRET, NAME = 'secret = "{}"\n', 'name = "{}"\n'
 SHORT, CONTROL, EXAMPLE = ("it has fewer than 8 octets", "it has a control character, as a backslash makes one in quotation marks",
                            "an example has this secret")
+EACH_REALM = "a realm of this name, not each realm: other_home takes all that are not listed"
+NO_REALM = "a realm of this name: default_home takes names without a realm, other_home all realms that are not listed"
+TILDE = "it begins with ~, but a realm is a name, not a pattern: other_home takes all that are not listed"
 
 
 def hardly_meant():
@@ -187,12 +194,14 @@ def hardly_meant():
         for place, line, old in (("client 0", 4, "nas-secret"), ("home 0", 8, "home-secret")):
             told = [] if doubt is None else [warning("weak-secret", f"{place} secret at line {line}, column 1: {doubt}")]
             yield f"{place} {secret}", whole.replace(SECRET.format(old), SECRET.format(secret)), told
-    names = [("*", "a realm of this name, not each realm: default_home serves names without a realm"),
+    names = [*((name, EACH_REALM) for name in ("*", "DEFAULT", "default", "Default")), *((name, NO_REALM) for name in ("NULL", "null")),
+             *((name, TILDE) for name in ("~", "~.*", "~^.*\\\\.org$")),
              ("/example\\\\.(org|net)$/", "it begins with /, but a realm is a name, not a pattern"),
              ("/", "it begins with /, but a realm is a name, not a pattern"),
              ("example.org.", "it ends with a dot, as hardly a user's realm does"),
              (".", "it ends with a dot, as hardly a user's realm does"),
-             ("**", None), ("*.example.org", None), (".example.org", None), ("example.org/", None)]
+             ("**", None), ("*.example.org", None), (".example.org", None), ("example.org/", None), ("DEFAULTS", None), ("nul", None),
+             ("NULL.example", None), ("example~", None), ("~.", TILDE), ("DEFAULT.", "it ends with a dot, as hardly a user's realm does")]
     for name, doubt in names:
         told = [] if doubt is None else [warning("realm-name", f"realm 0 name at line 10, column 1: {doubt}")]
         yield f"realm {name}", whole.replace(NAME.format("example.org"), NAME.format(name)), told
@@ -200,10 +209,12 @@ def hardly_meant():
     yield "no realm and no default", LISTEN + CLIENT + HOME, nowhere
     yield "an array of no realms", LISTEN + "realm = []\n" + CLIENT + HOME, [nowhere[0].replace("realm:", "realm at line 2, column 1:")]
     yield "a default alone", LISTEN + 'default_home = "h1"\n' + CLIENT + HOME, []
+    yield "one for all other realms alone", LISTEN + 'other_home = "h1"\n' + CLIENT + HOME, []
     spare = '[[home]]\nname = "h2"\naddress = "127.0.0.1:2814"\nsecret = "long enough"\n'
     unused = warning("unused-home", "home 1 name at line 13, column 1: no realm and no default_home lead to it")
     yield "a home server that nothing leads to", whole + spare, [unused]
     yield "one that is the default", 'default_home = "h2"\n' + whole + spare, []
+    yield "one for all other realms", 'other_home = "h2"\n' + whole + spare, []
     yield "the first one", 'default_home = "h2"\n' + LISTEN + CLIENT + HOME + spare, [
         unused.replace("home 1", "home 0").replace("line 13", "line 7")]
     lead = '[[realm]]\nname = "example.net"\nhome = "h2"\n'
@@ -223,8 +234,7 @@ def hardly_meant():
         warning("unused-home", "home 1 name at line 10, column 1: no realm and no default_home lead to it"),
         warning("shared-address", "home 1 address at line 11, column 1: an earlier home server has this address and port"),
         warning("short-span", "home 1 span at line 13, column 1: below 5000 ms, so a late repeat is sent on as a new request"),
-        warning("realm-name", "realm 0 name at line 15, column 1: a realm of this name, not each realm: "
-                              "default_home serves names without a realm")]
+        warning("realm-name", f"realm 0 name at line 15, column 1: {EACH_REALM}")]
     for count in (MOST, MOST + 1, 3 * MOST):
         text = LISTEN + lines(f'[[client]]\naddress = "10.0.0.{n}"\nsecret = "short"' for n in range(count)) + HOME + REALM
         more = [f"level=warn event=configuration-warnings count={count - MOST}"] if count > MOST else []

@@ -74,6 +74,7 @@ SCRIPTS = [
     Script("network/unreachable_home_server"),
     Script("network/limits"),
     Script("network/log_of_downs_cuts_loops"),
+    Script("network/loops"),
     Script("network/log_lines_and_metrics"),
     Script("network/metrics_of_realms_and_process"),
     Script("network/traced_lines", is_alone=True),

@@ -120,15 +120,16 @@ class Faults:
         self.document, self.found = document, []
         self.text(document, "top", "listen", is_endpoint, "BadAddress")
         self.optional("default_home", str)
+        self.optional("other_home", str)
         self.optional("linger", int, (0, 600000))
         homes = self.tables("home", 64, True, report=False)
         names = {table.get("name") for table in homes}
         self.each(self.tables("client", 256, True), "client", "address", is_address, "BadAddress", self.client)
         self.each(self.tables("home", 64, True), "home", "name", is_name, "OutOfRange", self.home)
         self.each(self.tables("realm", 256, False), "realm", "name", is_realm, "OutOfRange", lambda *table: self.realm(names, *table))
-        default = document.get("default_home")
-        if isinstance(default, str) and default not in names:
-            self.add("UnknownHome", "top", "default_home")
+        for key in ("default_home", "other_home"):
+            if isinstance(document.get(key), str) and document[key] not in names:
+                self.add("UnknownHome", "top", key)
 
     def add(self, fault, place, key):
         self.found.append(f"{fault} at {place} {key}")

@@ -215,8 +215,14 @@ class LoggedHome:
         self.port = Port(loop, "127.0.0.1", self.arrive)
         self.log, self.sessions = {}, {}
         self.next_number, self.excused, self.lost = 0, 0, 0
-        self.is_away = False
+        self.is_away, self.has_others = False, False
         self.in_order = array("Q"), array("Q")
+
+    def drawn_realm(self):
+        """The realm of a request for it: its own, or, if realms that are not listed lead here, half of the time one of these."""
+        if self.has_others and self.chance.random() < 0.5:
+            return bytes(self.chance.choices(range(1, 64), k=self.chance.choice([1, 20, 240])))
+        return self.realm.encode()
 
     def go_away(self, is_closed):
         """From now on it answers nothing; where its port is closed, the kernel answers that it is unreachable."""
@@ -341,7 +347,7 @@ class LoggedNas:
         self.made += 1
         states = attribute(PROXY_STATE, self.chance.randbytes(3)) if self.chance.random() < 0.3 else b""
         more = attribute(CLASS, self.chance.randbytes(self.chance.choice([0, 30, 200])))
-        user = user_name(f"bob@{home.realm}".encode())
+        user = user_name(b"bob@" + home.drawn_realm())
         octets = request(identifier, user + attribute(ACCT_SESSION_ID, session) + states + more, self.secret)
         self.out[identifier] = Asked(session, octets, states, home)
         self.findings.counts["requests"] += 1

@@ -328,7 +328,7 @@ class Replay:
         self.lanes = [Lane(number, home) for number, home in enumerate(known["home"])]
         numbers = {lane.name: lane.number for lane in self.lanes}
         self.realms = {realm["name"].encode().lower(): numbers[realm["home"]] for realm in known.get("realm", [])}
-        self.default = numbers.get(known.get("default_home"))
+        self.default, self.other = numbers.get(known.get("default_home")), numbers.get(known.get("other_home"))
         self.moment = 0
 
     def told(self, event, is_refused=False):
@@ -410,7 +410,7 @@ class Replay:
         """The lane that the first User-Name leads to."""
         name = next((value for value, _ in asked.of_type(USER_NAME)), b"")
         _, sign, realm = name.rpartition(b"@")
-        number = self.realms.get(realm.lower()) if sign else self.default
+        number = self.realms.get(realm.lower(), self.other if realm else None) if sign else self.default
         if number is None:
             raise Fault("NoRealm")
         return self.lanes[number]

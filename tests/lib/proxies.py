@@ -71,11 +71,12 @@ class Proxy:
         self.log.write_text("")
 
     @classmethod
-    def serving(cls, program, folder, name, homes, port=None, default=None, level="info", linger=0, variables=(), errors=None):
+    def serving(cls, program, folder, name, homes, port=None, default=None, level="info", linger=0, variables=(), errors=None, other=None):
         """One that listens, for whoever is here: with these home servers, each with its port here, or its whole address, and its limits."""
         listen, secret = (HERE, port or free_port()), SECRET.decode()
         servers = [Server(home, place, keys, f"{home}.example", secret) for home, (place, keys) in homes.items()]
-        made = cls(program, folder, configured(f"{HERE}:{listen[1]}", servers, secret=secret, linger=linger, default=default), listen, name)
+        text = configured(f"{HERE}:{listen[1]}", servers, secret=secret, linger=linger, default=default, other=other)
+        made = cls(program, folder, text, listen, name)
         more = {} if errors is None else {"stderr": errors}
         made.start(env=environment(level) | {"RAD_PROXY_COUNTERS": str(made.counters)} | dict(variables), **more)
         made.listens()

@@ -37,9 +37,9 @@ class Server:
         return f'[[realm]]\nname = "{self.realm}"\nhome = "{self.name}"\n' if self.realm else ""
 
 
-def configured(listen, servers, clients=(HERE,), secret="nas-secret", linger=0, default=None):
+def configured(listen, servers, clients=(HERE,), secret="nas-secret", linger=0, default=None, other=None):
     """The text of a configuration of these home servers, and of clients with one secret. What is None is left out."""
-    tops = {"listen": f'"{listen}"', "linger": linger, "default_home": default and f'"{default}"'}
+    tops = {"listen": f'"{listen}"', "linger": linger, "default_home": default and f'"{default}"', "other_home": other and f'"{other}"'}
     head = "".join(f"{key} = {value}\n" for key, value in tops.items() if value is not None)
     text = "".join(f'[[client]]\naddress = "{client}"\nsecret = "{secret}"\n' for client in clients)
     return head + text + "".join(server.text() for server in servers) + "".join(server.text_of_realm() for server in servers)

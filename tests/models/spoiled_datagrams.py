@@ -24,6 +24,8 @@ NAS_SECRET = b"nas-secret"
 LIMITS = "window = 6\nqueue = 4\nring = 3\nbook = 12\ntries = 2\nspan = 5000\nprobe_every = 3000\ndown_wait = 9000\n"
 CONFIGURATION = (rows.ROWS / "two-homes.toml").read_text("utf-8").replace("[[home]]", f"[[home]]\n{LIMITS}")
 CONFIGURATION = CONFIGURATION.replace('name = "h2"', 'name = "h2"\nports = 2')
+# What else the top of a configuration has, in a conversation each.
+TOPS = ["", "", 'other_home = "h1"\n', 'other_home = "h2"\n', 'default_home = "h2"\nother_home = "h1"\n']
 REALMS = [b"example.org", b"example.net"]
 FAULTS = ["Unread Short", "Unread BadLength", "Unread Truncated", "Unread BadAttribute", "WrongCode", "BadAuthenticator"]
 FAULTS += ["MessageAuthenticatorHere"]
@@ -87,7 +89,8 @@ class Conversation:
     def __init__(self, seed, asked, replied):
         self.chance = random.Random(seed)
         self.asked, self.replied, self.made = asked, replied, []
-        self.proxy, self.moment = Replay(CONFIGURATION), 0
+        self.configuration = random.Random(f"top {seed}").choice(TOPS) + CONFIGURATION
+        self.proxy, self.moment = Replay(self.configuration), 0
         self.events, self.lines, self.events_of_lines = [], [], []
         self.answers = collections.Counter()
 
@@ -188,7 +191,7 @@ class Conversation:
             if count == datagrams * 9 // 10:
                 self.tell("drain")
             self.one_datagram()
-        return f"{CONFIGURATION}%%\n" + "".join(f"{event}\n" for event in self.events)
+        return f"{self.configuration}%%\n" + "".join(f"{event}\n" for event in self.events)
 
 
 def difference(conversation, ran):

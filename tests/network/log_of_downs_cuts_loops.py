@@ -147,15 +147,17 @@ class Trial(trying.Trial):
         self.see("it is told once a second at most", len(proxy.lines("marked")) <= PATIENCE)
 
     def tell_of_a_chain(self):
-        """A request with one Proxy-State of this form, as behind another proxy, is told at `info`; one with none is not."""
-        proxy = self.proxy("chain", {"quick": (Home().port, "")})
-        self.ask(proxy, b"bob@quick.example", attribute(PROXY_STATE, b"abc"))
-        self.ask(proxy, b"bob@quick.example", mark(3, 77))
-        self.see("it is told", is_so(lambda: proxy.lines("marked")))
-        told = proxy.lines("marked")
-        right = {"level": "info", "home": "quick", "count": "1", "proxy_states": "1", "client": HERE}
-        self.see("it is told as one", len(told) == 1 and right.items() <= told[0].items(), told)
-        proxy.end()
+        """A request with one Proxy-State of this form, as behind another proxy, is told at `info`, or at `warn` where realms that are not
+        listed lead on; one with none is not."""
+        for level, other in (("info", None), ("warn", "quick")):
+            proxy = self.proxy(f"chain-{level}", {"quick": (Home().port, "")}, other=other)
+            self.ask(proxy, b"bob@quick.example", attribute(PROXY_STATE, b"abc"))
+            self.ask(proxy, b"bob@quick.example", mark(3, 77))
+            self.see("it is told", is_so(lambda: proxy.lines("marked")))
+            told = proxy.lines("marked")
+            right = {"level": level, "home": "quick", "count": "1", "proxy_states": "1", "client": HERE}
+            self.see("it is told as one", len(told) == 1 and right.items() <= told[0].items(), told)
+            proxy.end()
 
     def stop(self):
         """Ends whatever is left running."""

@@ -8,7 +8,8 @@ The network drops, doubles, delays and spoils datagrams in both directions, and 
 or with their ports closed. At the end both sides' logs are compared: each acknowledged request is at its home server, with
 its own attributes, under one identifier and one authenticator; first sendings came in the order of acceptance, as far as
 a home server could receive them; each response was right, answered its own request and was what the home server had
-replied. Where a repeat came to its home server as a new request, `span` was over. Then the input ends, and the `end:` line
+replied. Some requests for the last home server, that of `other_home`, have realms that are not listed. Where a repeat came to its home
+server as a new request, `span` was over. Then the input ends, and the `end:` line
 and the status have to agree with what the sides know. The program writes a ledger: each response that came to a NAS stands there
 once, and audit_model.py has to find it whole. All of this holds however slow the machine is. The endings:
 
@@ -118,6 +119,7 @@ class Soak:
         self.loop, self.findings = lossy.Loop(), lossy.Findings()
         self.network = lossy.Network(self.loop, self.chance)
         self.homes = [self.home(lane) for lane in range(len(LIMITS))]
+        self.homes[-1].has_others = True
         self.listen = (HERE, free_port())
         self.nases = [self.nas(number) for number in range(3)]
         self.ledger = pathlib.Path(folder, "ledger")
@@ -136,7 +138,7 @@ class Soak:
         return lossy.LoggedNas(self.loop, self.network, self.findings, f"n{number}", address, secret, self.listen, self.chance)
 
     def configuration(self):
-        parts = [f'listen = "{self.listen[0]}:{self.listen[1]}"\nlinger = {LINGER[self.ending]}']
+        parts = [f'listen = "{self.listen[0]}:{self.listen[1]}"\nlinger = {LINGER[self.ending]}\nother_home = "{self.homes[-1].name}"']
         parts += [f'[[client]]\naddress = "{nas.port.address[0]}"\nsecret = "{nas.secret.decode()}"' for nas in self.nases]
         parts += [
             f'[[home]]\nname = "{home.name}"\naddress = "127.0.0.1:{home.port.address[1]}"\n'

@@ -19,11 +19,11 @@ REALMS = [("b.example", 1, "b.example"), ("a.example", 0, "a.example"), ('q"\\\\
           ("z" * 252, 1, "z" * 252)]
 
 
-def served(program, folder, homes):
-    """A program with two home servers, of which each realm leads to one, and the rest to the first one."""
+def served(program, folder, homes, other=None):
+    """A program with two home servers, of which each realm leads to one, what has none to the first one, and all others to none or this one."""
     port = free_port()
     servers = [Server(f"h{lane}", home.port, "book = 2\nspan = 60000\n", secret=SECRET.decode()) for lane, home in enumerate(homes)]
-    text = configured(f"{HERE}:{port}", servers, secret=SECRET.decode(), linger=0, default="h0")
+    text = configured(f"{HERE}:{port}", servers, secret=SECRET.decode(), linger=0, default="h0", other=other)
     text += "".join(f'[[realm]]\nname = "{name}"\nhome = "h{lane}"\n' for name, lane, _ in REALMS)
     proxy = Proxy(program, folder, text.replace('"q"', '"q\\"'), (HERE, port))
     proxy.start(env=environment() | {"RAD_PROXY_COUNTERS": str(proxy.counters)})
@@ -67,6 +67,24 @@ def each_realm_has_its_requests(program, folder):
         found = realms_of(proxy)
         hope("realms", [name for name, _ in found], [label for _, _, label in REALMS])
         hope("requests", {name: int(count) for name, count in found}, wanted)
+    finally:
+        proxy.kill()
+
+
+def all_other_realms_have_one_label(program, folder):
+    """With `other_home` requests of realms that are not listed count under one label, the last one, be they of as many names as they like."""
+    proxy = served(program, folder, [Home(), Home()], "h1")
+    try:
+        nas = Nas(proxy)
+        others = [b"none.example", b"None.Example", b"@other", b"b.example.", b"\xff\"}\n", b"a.exampl", b"z" * 251, *(b"r%d" % it for it in range(50))]
+        for number, name in enumerate([*others, others[0], b"B.EXAMPLE", b"z" * 252, b"", b"x@"]):
+            nas.socket.sendto(request(number, user_name(b"@" + name), SECRET), proxy.listen)
+        nas.socket.sendto(request(250, user_name(b"bob"), SECRET), proxy.listen)
+        nas.ask_status()
+        nas.socket.recv(4096)
+        found = realms_of(proxy)
+        hope("labels", [name for name, _ in found], [label for _, _, label in REALMS] + ["@other"])
+        hope("requests", [int(count) for _, count in found], [1, 0, 0, 0, 1, len(others) + 1])
     finally:
         proxy.kill()
 
@@ -188,7 +206,7 @@ def the_process_is_as_the_system_tells(program, folder):
     need(min(seconds for _, seconds in seen) > 0, "no processor time")
 
 
-TESTS = [each_realm_has_its_requests, without_realms_none_is_told, down_time_is_the_time_between_the_marks,
+TESTS = [each_realm_has_its_requests, all_other_realms_have_one_label, without_realms_none_is_told, down_time_is_the_time_between_the_marks,
          the_process_is_as_the_system_tells]
 
 

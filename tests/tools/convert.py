@@ -63,7 +63,7 @@ def short(found):
         "home": [(one["name"], one["address"], one["secret"]) for one in found["home"]],
         "realm": [(one["name"], one["home"]) for one in found.get("realm", [])],
     }
-    return made | ({"default": found["default_home"]} if "default_home" in found else {})
+    return made | {key.removesuffix("_home"): found[key] for key in ("default_home", "other_home") if key in found}
 
 
 def hope_told(told, wanted, file):
@@ -324,6 +324,11 @@ PATTERNS = ["/@(.+\\.)?nordnetz\\.example$/", "/\\.example$/", "/@.*\\.org$/", "
 # Of the realms behind these nothing is known.
 BY_USER = ["/^vip/", "/guest/"]
 USERS = ["bob", "vip1", "a.guest", "x"]
+# What takes all that is left, or nearly, and realms that are listed nowhere.
+CATCH_ALLS = ["*", "/.*/", "/./", "/@/", "/@./", "/^.*@.*$/", "/^[^@]*$/", "/^[^@]+$/", "//", "/.+@.+/", "/@[^@]+$/"]
+UNLISTED = ["unknown.example2", "EXAMPLE.ORG.", "x", "a b", "\u00e9.org", "@", "example.or"]
+# So many sites, and names that are asked of each.
+RANDOM_SITES, NAMES_OF_EACH = 6, 24
 
 
 def site_of_matches(chance, site):
@@ -374,6 +379,56 @@ def the_first_match_is_that_of_radsecproxy(program, room):
         if made != source and not (made is None and (is_told or realm not in WHOLE_NAMES[:-1])):
             raise AssertionError(f"{user} of {client.address}: {source} of radsecproxy, and {made}")
     hope("names that reach the same", sum(made is not None for made in found[1]) > NAMES_ASKED / 4 or found, True)
+
+
+def site_with_catch_alls(chance, site):
+    """A text of radsecproxy in which one or two blocks take all that is left, somewhere among whole names, patterns and realms of nobody."""
+    blocks = [texts.block(f"server {home.name}", "type udp", f"host {home.address}:{home.port}", f"secret {home.secret.decode()}") for home in site.homes]
+    blocks += [texts.block("client 127.0.0.2", "type udp", "secret nas")]
+    realms = chance.sample(WHOLE_NAMES, 3) + chance.sample(PATTERNS + BY_USER, chance.choice([0, 0, 1])) + chance.sample(CATCH_ALLS, chance.choice([1, 1, 2]))
+    chance.shuffle(realms)
+    for name in realms:
+        blocks.append(texts.block(f"realm {name}", *([f"accountingServer {chance.choice(site.homes).name}"] if chance.random() < 0.85 else [])))
+    return f"ListenUDP {table.FRONT}:{site.port}\nPidFile none\n" + "".join(blocks)
+
+
+def is_told(user, told):
+    """Whether a difference in the home server of this user is told: of the realm, of an empty one, or of what a catch-all gets too."""
+    _, sign, realm = user.rpartition("@")
+    if any(f"realm {realm}: " in line for line in told if sign):
+        return True
+    return any("not carried over too" in line or "a pattern" in line or sign and not realm and "empty realm" in line for line in told)
+
+
+def catch_alls_are_those_of_radsecproxy(program, room):
+    """Random sites with what takes all that is left: radsecproxy and the program over the result have the same home server for a name, be
+    its realm listed, not listed or absent, or what differs is told."""
+    want("radsecproxy")
+    chance, same, others = random.Random(82), 0, collections.Counter()
+    for number in range(RANDOM_SITES):
+        port, *ports = free_ports(4)
+        site = table.Site(port, [], [table.Home(f"h{number}", table.FRONT, it, b"home") for number, it in enumerate(ports)], [])
+        here = room / str(number)
+        here.mkdir()
+        (here / "it").write_text(site_with_catch_alls(chance, site))
+        client = table.Client("127.0.0.2", b"nas")
+        asked = ["bob", "bob@", "eve@a@", *(f"{chance.choice(USERS)}@{realm}" for realm in chance.choices(WHOLE_NAMES + UNLISTED, k=NAMES_OF_EACH))]
+        status, _, told = convert("radsecproxy", here / "it", "-o", here / "it.toml")
+        if status == 2:
+            hope("why nothing is carried over", told[-1].startswith("rad_convert: no home server") or told, True)
+            continue
+        found = []
+        for words in (["radsecproxy", "-f", "-c", str(here / "it")], [program, "run", here / "it.toml"]):
+            with contextlib.ExitStack() as stack:
+                stack.enter_context(talking.serving(words, site, here))
+                homes = {stack.enter_context(bound(home.address, home.port)): home for home in site.homes}
+                found.append([first_home(site, client, user, homes) for user in asked])
+        for user, source, made in zip(asked, *found):
+            if made != source and not is_told(user, told):
+                raise AssertionError(f"site {number}, {user!r}: {source} of radsecproxy, and {made}: {(here / 'it').read_text()}")
+        same += sum(source == made for source, made in zip(*found))
+        others.update(key for key in ("default_home", "other_home") if f"\n{key} = " in (here / "it.toml").read_text())
+    hope("names that reach the same, and sites of each kind", same > 100 and min(others["default_home"], others["other_home"]) > 1 or (same, others), True)
 
 
 # What the packages ship.
@@ -489,9 +544,9 @@ def freeradius_turned_on(program, room):
     hope("status", (status, status == 3 or told), (3, True))
     found = short(checked(program, out, room))
     hope("the home server", found["home"], [("192.0.2.77", "192.0.2.77:1601", "testing123")])
-    hope("without a realm", found["default"], "192.0.2.77")
+    hope("without a realm, and of each realm", (found["default"], found["other"]), ("192.0.2.77", "192.0.2.77"))
     hope("a client", ("127.0.0.1", "testing123") in found["client"], True)
-    for part in ("a block of addresses", "IPv6", "a pattern", "no catch-all", "host name", "one list of clients", "nostrip", "virtual"):
+    for part in ("a block of addresses", "IPv6", "a pattern", "empty realm", "host name", "one list of clients", "nostrip", "virtual"):
         hope(part, any(part in line for line in told) or told, True)
 
 
@@ -571,6 +626,7 @@ def cases():
     yield "patterns are those of the system", patterns_are_those_of_the_system
     yield from sites()
     yield "the first match is that of radsecproxy", the_first_match_is_that_of_radsecproxy
+    yield "catch-alls are those of radsecproxy", catch_alls_are_those_of_radsecproxy
     yield from packages()
     yield from damages()
 

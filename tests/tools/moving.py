@@ -24,7 +24,7 @@ from tests.lib.tools import running, talking
 from tests.lib.tools.running import want
 
 NAS, PROXY, HOME = (f"moving-{os.getpid()}-{name}" for name in ("nas", "proxy", "home"))
-HERE, BILLING, HUB = "10.20.0.1", "198.51.100.20", "198.51.100.21"
+HERE, BILLING = "10.20.0.1", "198.51.100.20"
 NASES = ["10.20.0.11", "10.20.0.12", "10.20.0.13"]
 NEW_NETWORK = 0x40000000
 HOME_SECRET = b"home secret"
@@ -61,69 +61,6 @@ secret = "home secret"
 [[realm]]
 name = "example.org"
 home = "billing"
-"""
-FRONT = """prefix = /usr
-libdir = ${prefix}/lib/freeradius
-logdir = ${confdir}
-run_dir = ${confdir}
-log {
-	destination = stdout
-}
-client block {
-	ipaddr = 10.20.0.0/24
-	secret = "one secret of all"
-}
-home_server rad_proxy {
-	type = acct
-	ipaddr = 127.0.0.1
-	port = 11813
-	secret = "one secret of all"
-	response_window = 60
-	zombie_period = 120
-	status_check = status-server
-}
-home_server hub {
-	type = acct
-	ipaddr = 198.51.100.21
-	port = 1813
-	secret = "home secret"
-}
-home_server_pool rad_proxy {
-	home_server = rad_proxy
-}
-home_server_pool hub {
-	home_server = hub
-}
-realm example.org {
-	acct_pool = rad_proxy
-	nostrip
-}
-realm DEFAULT {
-	acct_pool = hub
-	nostrip
-}
-modules {
-	always ok {
-		rcode = ok
-	}
-	realm suffix {
-		format = suffix
-		delimiter = "@"
-	}
-}
-server accounting {
-	listen {
-		type = acct
-		ipaddr = *
-		port = 1813
-	}
-	preacct {
-		suffix
-	}
-	accounting {
-		ok
-	}
-}
 """
 CHAIN = "nft add table ip moving\nnft add chain ip moving in { type nat hook prerouting priority -100 ; }"
 ONE_RULE = "nft add rule ip moving in ip saddr 10.20.0.11 udp dport 1813 counter redirect to :11813"
@@ -179,7 +116,7 @@ def network():
         for space in (NAS, PROXY, HOME):
             run("ip", "netns", "add", space)
             run("ip", "-n", space, "link", "set", "lo", "up")
-        for name, space, own, others in (("n", NAS, HERE, NASES), ("h", HOME, "198.51.100.1", [BILLING, HUB])):
+        for name, space, own, others in (("n", NAS, HERE, NASES), ("h", HOME, "198.51.100.1", [BILLING])):
             run("ip", "link", "add", f"{name}0", "netns", PROXY, "type", "veth", "peer", "name", "e0", "netns", space)
             for address in others:
                 run("ip", "-n", space, "address", "add", f"{address}/24", "dev", "e0")
@@ -381,20 +318,6 @@ def a_mapping_that_is_too_short_loses_answers(room):
     hope("a long one", (asks(12, "d", ONE_SECRET, times=2, every=7), proxy.accepted()), (1813, 6))
 
 
-def a_catch_all_by_freeradius_in_front(room):
-    """FreeRADIUS sends known realms to rad_proxy and all else to another home server, and repeats stay repeats."""
-    home, hub = HomeServer(), HomeServer(HUB)
-    proxy = Asked(NEW.format(listen="127.0.0.1:11813", client="127.0.0.1"), room)
-    (room.folder / "radiusd.conf").write_text(FRONT)
-    room.background("freeradius", "-f", "-l", "stdout", "-d", str(room.folder))
-    users = ("bob@example.org", "eve@elsewhere.example", "norealm")
-    hope("answers", [asks(11 + number, user, ONE_SECRET, user) for number, user in enumerate(users)], [1813] * 3)
-    hope("who gets what", ([name for _, name in home.sessions], [name for _, name in hub.sessions]), ([users[0]], list(users[1:])))
-    home.delay = 5
-    hope("a slow one", (asks(11, "slow", ONE_SECRET, times=4), proxy.accepted()), (1813, 2))
-    hope("repeats", proxy.counter('rad_proxy_client_repeats_total{client="127.0.0.1",repeat="waiting"}'), 2)
-
-
 def the_source_address_is_chosen_by_a_route_or_a_rule(room):
     """Of two addresses a home server sees that of its route at once, or that of a rule of nft once mappings are deleted."""
     home = HomeServer()
@@ -435,7 +358,7 @@ def what_is_not_tracked_has_no_entry(room):
 
 CASES = [one_nas_is_moved_and_comes_back, a_mapping_that_is_not_deleted_stays, an_unanswered_request_that_is_moved_comes_twice,
          all_are_moved_and_the_new_proxy_takes_the_port, a_block_by_source_translation_is_one_client,
-         a_mapping_that_is_too_short_loses_answers, a_catch_all_by_freeradius_in_front,
+         a_mapping_that_is_too_short_loses_answers,
          the_source_address_is_chosen_by_a_route_or_a_rule, what_is_not_tracked_has_no_entry]
 
 

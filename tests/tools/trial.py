@@ -179,6 +179,22 @@ def each_fate_is_counted(program, folder):
     hope("the end", text.endswith("end: queued 0 outstanding 0 untaken 0\n"), True)
 
 
+def realms_that_are_not_listed_lead_on(program, folder):
+    """With `other_home` they are accepted there, and without a realm or with an empty one a request is dropped as before."""
+    trial, traffic = Trial(program, folder, 'other_home = "h2"\n' + configuration()), Traffic(0.01)
+    for user, realm in ((b"bob@nowhere.example", "nowhere.example"), (b"eve@Example.NET", "example.net"), (b"x@example.org", "example.org")):
+        for _ in range(5):
+            traffic.ask(user=user, realm=realm)
+    for user, realm in ((b"bob", "-"), (b"bob@", "")):
+        traffic.ask(SECOND, user, realm, "dropped", "NoRealm")
+    text = trial.played(pcap(traffic.frames()))
+    traffic.wanted.pop((SECOND, ""))
+    traffic.why.pop((SECOND, ""))
+    for key in ((FIRST, "nowhere.example"), (FIRST, "example.net"), (FIRST, "example.org"), (SECOND, "-")):
+        hope(f"{key} in {text}", rows(text).get(key), (traffic.wanted[key], traffic.why.get(key, Counter())))
+    hope("home servers", [home_rows(text, name)["accepted"] for name in ("h1", "h2")], [5, 10])
+
+
 def each_form_is_played(program, folder):
     """Cooked frames, pcapng, and fragments; two files in the order of their times."""
     trial, traffic = Trial(program, folder), Traffic(0.01)
@@ -471,7 +487,8 @@ WRONG = [
     "HOME\n[[realm]]\nname = 'a'\nhome = 'h'\n[[realm]]\nname = 'A'\nhome = 'h'", "default_home = 'g'\nHOME",
     "HOME\n[[realm]]\nname = '" + "a" * 253 + "'\nhome = 'h'", "HOME\nsecret = 'x'", "HOME\n[realm]", "\udcff", "LISTEN\nLISTEN\n",
     "HOME\ntries = 11", "HOME\nfirst_wait = 99", "HOME\nring = 4097", "HOME\nqueue = 65537", "HOME\nbook = 1000001",
-    "CLIENT\nhome = 'x'",
+    "CLIENT\nhome = 'x'", "other_home = 3\nLISTEN", "linger = true\nother_home = 'h'\nLISTEN", "other_home = 'g'\nHOME",
+    "default_home = 'g'\nother_home = 'f'\nHOME",
 ]
 PARTS = {
     "HOMES": "HOME\n[[home]]\nname = 'h'\naddress = '1.2.3.4:5'\nsecret = 'x'",
@@ -574,7 +591,7 @@ def see_bounds(program, folder, count, more):
     hope(text, (home["accepted"], home["left"]), (sum(it["accepted"] for it in found), 0))
 
 
-TESTS = [a_capture_is_begun, each_fate_is_counted, each_form_is_played, both_sides_are_in_the_capture, an_outage_fills_the_queue,
+TESTS = [a_capture_is_begun, each_fate_is_counted, realms_that_are_not_listed_lead_on, each_form_is_played, both_sides_are_in_the_capture, an_outage_fills_the_queue,
          an_outage_may_come_later, answers_take_their_time, datagrams_that_the_system_drops_are_lost, odd_names_are_played,
          warnings_are_told, two_homes_of_one_address_are_two, a_script_has_the_same, a_script_is_never_too_long, a_script_is_its_owners_alone, nothing_else_is_touched,
          nothing_is_left_after_a_kill, faults_are_one_line, configurations_are_read_alike, users_are_told_of_root,

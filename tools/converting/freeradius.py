@@ -1,7 +1,7 @@
 """What the configuration of FreeRADIUS 3 means to rad_proxy."""
 import os
 
-from . import addresses, sections, site
+from . import addresses, patterns, sections, site
 from .reading import Fault, shown
 
 # The ports of accounting and of authentication.
@@ -252,34 +252,52 @@ class Converter:
     # Realms.
 
     def _realms(self):
-        special = {}
+        special, lost = {}, []
         for realm in self.root.sections(b"realm"):
-            name = realm.name
-            what = site.named("realm", name)
-            if name in (b"NULL", b"DEFAULT"):
-                special.setdefault(name, realm)
-            elif name.startswith(b"~"):
-                self.site.tell(realm.place, f"{what}: a pattern; rad_proxy has realms by their whole name alone")
-            else:
-                home = self._realm_home(realm, what)
-                if home:
-                    self._tell_stripping(realm, what)
-                    self.site.add_realm(realm.place, what, name, home)
-        self._default(special.get(b"NULL"), special.get(b"DEFAULT"))
+            kind = b"~" if _is_each(realm.name) else realm.name
+            if kind in (b"NULL", b"DEFAULT", b"~") and kind not in special:
+                special[kind] = realm
+            elif not self._listed(realm):
+                lost.append(realm)
+        first, default = special.get(b"~"), special.get(b"DEFAULT")
+        if first and default:
+            self.site.tell(default.place, f"realm DEFAULT: FreeRADIUS never comes to it, since {site.named('realm', first.name)} of {first.place} "
+                                          "has each realm")
+        self._default(special.get(b"NULL"), first or default, lost)
 
-    def _default(self, null, default):
-        """The home server of requests without a realm is that of the realm NULL, or else of DEFAULT."""
-        if default:
-            taken = "" if null else "requests without a realm go to its home server, "
-            self.site.tell(default.place, f"realm DEFAULT: rad_proxy has no catch-all; {taken}those of other realms are dropped")
-        realm = null or default
-        if realm:
-            what = site.named("realm", realm.name)
-            home = self._realm_home(realm, what)
-            if home:
-                self._tell_stripping(realm, what)
-                self.site.default_home = home
-                self.site.default_comment = [f"{what}, {realm.place}, for requests without a realm"]
+    def _listed(self, realm):
+        """Carries a realm over, and gives whether its requests lead where they led."""
+        what = site.named("realm", realm.name)
+        if realm.name.startswith(b"~"):
+            self.site.tell(realm.place, f"{what}: a pattern; rad_proxy has realms by their whole name alone")
+            return False
+        home = self._realm_home(realm, what)
+        if home:
+            self._tell_stripping(realm, what)
+        return bool(home) and self.site.add_realm(realm.place, what, realm.name, home)
+
+    def _default(self, null, default, lost):
+        """Requests without a realm go to the home server of NULL, or else of DEFAULT, and those of other realms to that of DEFAULT."""
+        homes = {realm: self._special_home(realm) for realm in (null, default) if realm}
+        if homes.get(null or default):
+            self.site.default_home = homes[null or default]
+            what = site.named("realm", (null or default).name)
+            self.site.default_comment = [f"{what}, {(null or default).place}, for requests without a realm, and those without a User-Name"]
+        if homes.get(default):
+            self.site.other_home = homes[default]
+            what = site.named("realm", default.name)
+            self.site.other_comment = [f"{what}, {default.place}, for the realms that are not listed"]
+            self.site.tell(default.place, f"{what}: rad_proxy drops requests of an empty realm, as of `bob@`")
+            if lost:
+                self.site.tell(default.place, f"{what}: its home server gets what is not carried over too ({len(lost)}, "
+                                              f"the first {site.named('realm', lost[0].name)} of {lost[0].place})")
+
+    def _special_home(self, realm):
+        what = site.named("realm", realm.name)
+        home = self._realm_home(realm, what)
+        if home:
+            self._tell_stripping(realm, what)
+        return home
 
     def _tell_stripping(self, realm, what):
         pair = realm.pair(b"nostrip")
@@ -330,6 +348,11 @@ class Converter:
             if names:
                 some = ", ".join(names[:8]) + (" .." if len(names) > 8 else "")
                 self.site.tell(part.place, f"{what}: {shown(kind)}: {said} ({some})")
+
+
+def _is_each(name):
+    """Whether the name of a realm is a pattern that has each realm, and so what has none too."""
+    return name.startswith(b"~") and patterns.BARE in patterns.each(b"/" + name[1:])
 
 
 def _called(item):

@@ -1,4 +1,4 @@
-"""Which requests of a realm a pattern of radsecproxy takes.
+"""Which requests a pattern of radsecproxy takes: those of a realm, of each realm, or without one.
 
 A pattern is an extended regular expression of POSIX that radsecproxy looks for in the whole User-Name, without regard to case. Python's
 `re` finds the same where a pattern has only the signs of TOKEN, no two bounds in a row and no bound at a beginning. A User-Name is taken
@@ -11,6 +11,15 @@ TOKEN = re.compile(rb"\\[][.()*+?{}|^$@/\\-]|\[\^?(?:[A-Za-z0-9._@%+](?:-[A-Za-z
                    rb"|[A-Za-z0-9_@:/%&=~,;!<>\"' -]|[.^$()|*+?]")
 BOUNDS = (b"*", b"+", b"?", b"{")
 BEGINNINGS = (b"(", b"|", b"^")
+
+# The patterns that take each User-Name with a realm behind its last `@`, and those that take each without an `@`.
+REALM, BARE = "realm", "bare"
+EACH = {
+    rb"\^?(?:\.[*+]?)?|(?:\.[*+]?)?\$|\^\.[*+]\$": {REALM, BARE},
+    rb"(?:\^?\.\*|\[\^@\]\*)?\\?@(?:(?:\.|\[\^@\])(?:[*+]\$?)?)?": {REALM},
+    rb"\^\[\^@\]\*\\?@(?:\.(?:[*+]\$?)?)?": {REALM},
+    rb"\^\[\^@\][*+]\$": {BARE},
+}
 
 
 def pattern_of(name):
@@ -30,6 +39,11 @@ def taken(name, realm):
     except re.error:
         return SOME
     return ALL if ALL in found else NONE if found == {NONE} else SOME
+
+
+def each(name):
+    """What the pattern of a name takes all of: REALM, BARE, both, or nothing. radsecproxy drops an empty User-Name itself."""
+    return next((kinds for form, kinds in EACH.items() if re.fullmatch(form, pattern_of(name))), set())
 
 
 def tokens_of(pattern):

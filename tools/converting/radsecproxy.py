@@ -192,8 +192,9 @@ class Converter:
         self.site = made
         self.servers = {}
         self.homes = {}
-        self.catch_all = None
+        self.caught = {}
         self.ignored = {}
+        self.lost = []
         self.networks = []
         self.patterns = []
         self.rewrites = {block.name.lower() for block in reader.blocks if block.kind == b"rewrite"}
@@ -333,42 +334,74 @@ class Converter:
 
     def _realm(self, block):
         what = site.named("realm", block.name)
-        name = self._literal(block.name)
-        servers = block.all(b"accountingserver")
-        if self.catch_all:
-            self.site.tell(block.place, f"{what}: radsecproxy never comes to it, since realm * of {self.catch_all} is before it")
-            return
-        if block.name == b"*":
-            self.catch_all = block.place
-        if name is not None and name.lower() in self.ignored:
+        name, kinds = self._literal(block.name), patterns.each(block.name)
+        wanted = {patterns.REALM} if name is not None else kinds or {patterns.REALM, patterns.BARE}
+        if wanted <= self.caught.keys():
+            first = self.caught[max(wanted)]
+            before = f"{site.named('realm', first.name)} of {first.place}"
+            self.site.tell(block.place, f"{what}: radsecproxy never comes to it, since {before} is before it")
+        elif kinds:
+            self._catch_all(block, what, kinds)
+        elif not (self._pattern(block, what) if name is None else self._listed(block, what, name)):
+            self.lost.append(block)
+
+    def _catch_all(self, block, what, kinds):
+        """Takes all that is left of the realms, or of what has none, to the home server of a block."""
+        fresh = kinds - self.caught.keys()
+        self.caught |= dict.fromkeys(fresh, block)
+        home = self._home_of_block(block, what)
+        if home and patterns.BARE in fresh:
+            self.site.default_home = home
+            self.site.default_comment = [f"{what}, {block.place}, for requests without a realm, and those without a User-Name, which radsecproxy drops"]
+        if home and patterns.REALM in fresh:
+            self.site.other_home = home
+            self.site.other_comment = [f"{what}, {block.place}, for the realms that are not listed"]
+            self.site.tell(block.place, f"{what}: rad_proxy drops requests of an empty realm, as of `bob@`")
+        lost = self.lost if patterns.REALM in fresh else self.patterns
+        if home and lost:
+            self.site.tell(block.place, f"{what}: its home server gets what is before it and not carried over too ({len(lost)}, "
+                                        f"the first {site.named('realm', lost[0].name)} of {lost[0].place})")
+
+    def _pattern(self, block, what):
+        """Tells of a pattern, which is not carried over."""
+        self.patterns.append(block)
+        if block.all(b"accountingserver"):
+            self.site.tell(block.place, f"{what}: a pattern; rad_proxy has realms by their whole name alone")
+        elif not self._tells_of_response(block, what):
+            self.site.tell(block.place, f"{what}: a pattern; of what it keeps away rad_proxy knows whole realms alone")
+        return False
+
+    def _tells_of_response(self, block, what):
+        if block.value(b"accountingresponse", b"off").lower() != b"on":
+            return False
+        self.site.tell(block.place, f"{what}: AccountingResponse: rad_proxy answers nothing by itself")
+        return True
+
+    def _listed(self, block, what, name):
+        """Carries a realm over, and gives whether its requests lead where they led."""
+        if name.lower() in self.ignored:
             self.site.tell(block.place, f"{what}: radsecproxy never comes to it, since {self.ignored[name.lower()]} has this realm")
-            return
+            return True
         first, said = self._first_pattern(name, what, block)
         if said:
             self.site.tell(block.place, said)
-            return
-        if not servers and not first:
-            self.ignored |= {} if name is None else {name.lower(): block.place}
-            if block.value(b"accountingresponse", b"off").lower() == b"on":
-                self.site.tell(block.place, f"{what}: AccountingResponse: rad_proxy answers nothing by itself")
-            elif name is None and block.name != b"*":
-                self.patterns.append(block)
-                self.site.tell(block.place, f"{what}: a pattern; of what it keeps away rad_proxy knows whole realms alone")
-            return
-        if name is None and block.name != b"*":
-            self.patterns.append(block)
-            self.site.tell(block.place, f"{what}: a pattern; rad_proxy has realms by their whole name alone")
-            return
-        if first:
-            servers = first.all(b"accountingserver")
+            return False
+        if not block.all(b"accountingserver") and not first:
+            self.ignored[name.lower()] = block.place
+            self._tells_of_response(block, what)
+            return False
+        home = self._home_of_block(first or block, what)
+        said = [f"at the home server of {site.named('realm', first.name)}, {first.place}, which radsecproxy finds first"] if first else []
+        return bool(home) and self.site.add_realm(block.place, what, name, home, said)
+
+    def _home_of_block(self, block, what):
+        """The home server of a block for accounting, or None. Of several, the first one is carried over."""
+        servers = block.all(b"accountingserver")
         for option in servers[1:]:
             self.site.tell(option.place, f"{what}: rad_proxy has one home server for a realm ({shown(option.value)} is another one)")
-        home = self._home_of(servers[0], what)
-        if block.name == b"*":
-            self._catch_all(block, home)
-        elif home:
-            said = [f"at the home server of {site.named('realm', first.name)}, {first.place}, which radsecproxy finds first"] if first else []
-            self.site.add_realm(block.place, what, name, home, said)
+        if not servers:
+            self._tells_of_response(block, what)
+        return self._home_of(servers[0], what) if servers else None
 
     def _first_pattern(self, name, what, block):
         """The first pattern so far that takes the requests of a realm, if any does; and what is told where the realm can't be carried over."""
@@ -391,13 +424,6 @@ class Converter:
         if home is None:
             self.site.tell(option.place, f"{what}: its home server {shown(option.value)} is not carried over")
         return home
-
-    def _catch_all(self, block, home):
-        rest = "requests without a realm go to its home server, those of other realms are dropped" if home else "it is dropped"
-        self.site.tell(block.place, f"realm *: rad_proxy has no catch-all; {rest}")
-        if home:
-            self.site.default_home = home
-            self.site.default_comment = [f"realm *, {block.place}, for requests without a realm alone"]
 
     @staticmethod
     def _literal(name):

@@ -83,8 +83,8 @@ class Site:
         self.told = []
         self.listen = None
         self.listen_comment = []
-        self.default_home = None
-        self.default_comment = []
+        self.default_home = self.other_home = None
+        self.default_comment, self.other_comment = [], []
         self.blocks = {"client": [], "home": [], "realm": []}
         self.places = {"client": {}, "home": {}, "realm": {}}
 
@@ -136,12 +136,12 @@ class Site:
         return fit
 
     def add_realm(self, place, what, name, home, comment=()):
-        """Adds a realm, unless another one has its name."""
+        """Adds a realm, unless another one has its name, and gives whether there is one of this name."""
         try:
             text = realm_of(name)
         except Unfit as why:
             self.tell(place, f"{what}: {why}")
-            return
+            return False
         key = name.lower()
         before = self.places["realm"].get(key)
         if before:
@@ -150,6 +150,7 @@ class Site:
             self.places["realm"][key] = place
             lines = [f"{what}, {place}", *comment]
             self.blocks["realm"].append(Block("realm", lines, {"name": text, "home": home}))
+        return key in self.places["realm"]
 
     def _has_room(self, part, most, place, what):
         if len(self.blocks[part]) < most:
@@ -175,6 +176,8 @@ class Site:
         lines += _top("listen", self.listen, self.listen_comment)
         if self.default_home:
             lines += _top("default_home", self.default_home, self.default_comment)
+        if self.other_home:
+            lines += _top("other_home", self.other_home, self.other_comment)
         for block in (block for blocks in self.blocks.values() for block in blocks):
             lines += ["", *(f"# {line}" for line in block.comment), f"[[{block.part}]]"]
             lines += [f"{key} = {quoted(value)}" for key, value in block.values.items()]

@@ -33,6 +33,7 @@ class Settings:
     listen: tuple
     linger: int
     default_home: str | None
+    other_home: str | None
     clients: dict
     homes: list
     realms: dict
@@ -62,7 +63,8 @@ def read_settings(path):
         raise Fault(str(error), error.status) from None
     clients = {socket.inet_aton(it["address"]): it["secret"].encode() for it in top["client"]}
     realms = {it["name"].encode().lower(): it["home"] for it in top["realm"]}
-    return Settings(endpoint(top["listen"]), top["linger"], top.get("default_home"), clients, [*map(read_home, top["home"])], realms)
+    homes = [*map(read_home, top["home"])]
+    return Settings(endpoint(top["listen"]), top["linger"], top.get("default_home"), top.get("other_home"), clients, homes, realms)
 
 
 def quoted(octets):
@@ -74,8 +76,9 @@ def quoted(octets):
 def written(settings, listen, numbers=()):
     """The text of a configuration that listens here, where each home server has these numbers in place of its own."""
     lines = [f'listen = "{socket.inet_ntoa(listen[0])}:{listen[1]}"', f"linger = {settings.linger}"]
-    if settings.default_home is not None:
-        lines.append(f"default_home = {quoted(settings.default_home)}")
+    for key, home in (("default_home", settings.default_home), ("other_home", settings.other_home)):
+        if home is not None:
+            lines.append(f"{key} = {quoted(home)}")
     for address, secret in settings.clients.items():
         lines += ["[[client]]", f'address = "{socket.inet_ntoa(address)}"', f"secret = {quoted(secret)}"]
     for home in settings.homes:

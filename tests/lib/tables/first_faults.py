@@ -37,6 +37,21 @@ def tops():
         ("default_home = 1", "WrongType at top default_home"),
         ('default_home = ""', "UnknownHome at top default_home"),
         ('default_home = "h2"', "UnknownHome at top default_home"),
+        ('other_home = "h1"', None),
+        ('other_home = "h1"\ndefault_home = "h1"', None),
+        ("other_home = 1", "WrongType at top other_home"),
+        ('other_home = ["h1"]\nlinger = true', "WrongType at top other_home"),
+        ('other_home = 1979-05-27\ndefault_home = "h2"', "WrongType at top other_home"),
+        ('other_home = "h1"\ndefault_home = 1', "WrongType at top default_home"),
+        ("linger = 600001\nother_home = 1\ndefault_home = 1", "WrongType at top default_home"),
+        ('other_home = ""', "UnknownHome at top other_home"),
+        ('other_home = "H1"', "UnknownHome at top other_home"),
+        (f'other_home = "{"h" * 65}"', "UnknownHome at top other_home"),
+        ('other_home = "h2"\nlinger = 600001', "OutOfRange at top linger"),
+        ('other_home = "h1"\ndefault_home = "h2"', "UnknownHome at top default_home"),
+        ('other_home = "h2"\ndefault_home = "h3"', "UnknownHome at top default_home"),
+        ('other_home = "h2"\ndefault_home = "h1"', "UnknownHome at top other_home"),
+        ('other_home = "h1"\nother_home = "h1"', "Toml", no_toml(3, 1, "duplicate key")),
     ]
     return between(LISTEN, rows, "\n" + CLIENT + HOME + REALM)
 
@@ -225,6 +240,7 @@ def values_of_keys():
     values = {
         ("top", "listen"): [None, "1", '"127.0.0.1"', '"127.0.0.1:1813"'],
         ("top", "default_home"): ["1", '"h2"', '"h1"'],
+        ("top", "other_home"): ["1", '"h2"', '"h1"'],
         ("top", "linger"): ["true", "600001", "5000"],
         ("client", "address"): [None, "1", '"10.0.0.256"', '"10.0.0.9"', '"10.0.0.1"'],
         ("client", "secret"): [None, "1", '""', '"s"'],
@@ -243,7 +259,8 @@ def faults_in_order():
     """Each fault, with the part and the key of its value."""
     read = ["Missing", "WrongType"]
     yield from ((fault, "top", "listen") for fault in [*read, "BadAddress"])
-    yield from (("WrongType", "top", "default_home"), ("WrongType", "top", "linger"), ("OutOfRange", "top", "linger"))
+    yield from (("WrongType", "top", key) for key in ("default_home", "other_home", "linger"))
+    yield "OutOfRange", "top", "linger"
     yield from ((fault, "client", "address") for fault in [*read, "BadAddress", "DoubleName"])
     yield from ((fault, "client", "secret") for fault in [*read, "OutOfRange"])
     yield from ((fault, "home", "name") for fault in [*read, "OutOfRange", "DoubleName"])
@@ -254,7 +271,7 @@ def faults_in_order():
     yield from (("OutOfRange", "home", key) for key in ["ports", *NUMBERS[:-1]])
     yield from ((fault, "realm", "name") for fault in [*read, "OutOfRange", "DoubleName"])
     yield from ((fault, "realm", "home") for fault in [*read, "UnknownHome"])
-    yield "UnknownHome", "top", "default_home"
+    yield from (("UnknownHome", "top", key) for key in ("default_home", "other_home"))
 
 
 def every_fault_in_its_order():
@@ -308,10 +325,14 @@ def sizes():
         ((255, 1, 0), '[[client]]\naddress = "10.0.0.0"', "DoubleName at client 255 address"),
         ((1, 63, 0), '[[home]]\nname = "h0"', "DoubleName at home 63 name"),
         ((1, 64, 255), '[[realm]]\nname = "r0"', "DoubleName at realm 255 name"),
+        ((1, 65, 0), "", "TooMany at top home", 'other_home = "h64"\n'),
+        ((1, 64, 1), "", None, 'other_home = "h63"\n'),
+        ((1, 64, 256), '[[realm]]\nname = "r0"', "TooMany at top realm", 'other_home = "h64"\n'),
+        ((1, 64, 1), "", "UnknownHome at top other_home", 'other_home = "h64"\n'),
         ((1, 1, 1), comments, None),
     ]
-    for numbers_of_each, more, fault in rows:
-        yield f"{numbers_of_each}, {shown(more)}", (sized(*numbers_of_each) + more).encode(), fault
+    for numbers_of_each, more, fault, *top in rows:
+        yield f"{numbers_of_each}, {shown(''.join([*top, more]))}", ("".join(top) + sized(*numbers_of_each) + more).encode(), fault
 
 
 TABLES = [whole_texts, tops, arrays_of_homes, arrays_of_realms, clients, homes, numbers, realms, limits, ends,

@@ -9,6 +9,7 @@ MOST_LISTED = 20
 ALL = """
 listen = "127.0.0.1:1813"
 default_home = "h1"
+other_home = "h1"
 linger = 5
 [[client]]
 address = "10.0.0.1"
@@ -121,7 +122,8 @@ READ = {"client": ["address", "secret"], "realm": ["name", "home"],
 NEAR = {"lisen": True, "lstn": True, "lst": False, "lixxen": True, "lxxxen": False, "lisxxten": True, "lisxxxten": False, "lisetn": True,
         "isten": True, "istenx": True, "stenx": False, "LIsten": True, "LISten": False, "clnt": True, "cln": False, "hme": True, "ho": True,
         "h": False, "real": True, "realms": True, "reams": True, "rums": False, "default-home": True, "default_homes": True,
-        "defaulthomes": True, "default": False, "windw": False, "secret": False, "name": True, "ring": False, "homexx": True}
+        "defaulthomes": True, "default": False, "other-home": True, "otherhome": True, "others_home": True, "orther_homes": True, "other": False,
+        "oterhomes": False, "windw": False, "secret": False, "name": True, "ring": False, "homexx": True}
 
 
 def names_that_are_told():

@@ -1,8 +1,8 @@
 """Texts of radsecproxy and FreeRADIUS, each with what rad_convert has to write and to tell of it.
 
 A row is a name, the text, the lines that are told (each the number of a line and a part of what it says), and what the configuration
-has: clients, home servers and realms as short pairs, and the home server of requests without a realm. None stands for a text of which
-nothing can be written.
+has: clients, home servers and realms as short pairs, and the home servers of requests without a realm and of all other realms. None
+stands for a text of which nothing can be written.
 """
 
 # A client, a home server and a realm, for the texts that are about something else. Seven lines, eight and three.
@@ -12,6 +12,7 @@ ONE = [("192.0.2.1", "abc")]
 HOME = [("h", "192.0.2.9:1813", "def")]
 REALM = [("example.org", "h")]
 WHOLE = {"client": ONE, "home": HOME, "realm": REALM}
+BOTH = {"default": "h", "other": "h"}
 
 F = "client a {\n ipaddr = 192.0.2.1\n secret = abc\n}\nhome_server h {\n type = acct\n ipaddr = 192.0.2.9\n secret = def\n}\n"
 F_POOL = "home_server_pool p {\n home_server = h\n}\n"
@@ -64,8 +65,37 @@ def radsecproxy():
         R + R[R.index("server"):].replace("server h", "server i").replace("2.9", "2.8") + "realm example.org {\n accountingServer h\n"
         " accountingServer i\n}\n"), [(17, "i is another one")], WHOLE
     yield "the catch-all", R + R_REALM + "realm * {\n accountingServer h\n}\nrealm b {\n accountingServer h\n}\n", (
-        [(13, "no catch-all"), (16, "radsecproxy never comes to it")]), WHOLE | {"default": "h"}
+        [(13, "drops requests of an empty realm"), (16, "never comes to it, since realm * of")]), WHOLE | BOTH
     yield "the catch-all of none", R + R_REALM + "realm * {\n replymessage x\n}\n", [], WHOLE
+    yield "the catch-all that answers itself", R + R_REALM + block("realm *", "AccountingResponse on"), [(13, "answers nothing by itself")], WHOLE
+    yield "the catch-all of a server that is not there, and one behind it", (
+        R + R_REALM + block("realm *", "accountingServer i") + block("realm *", "accountingServer h")), (
+            [(14, "no server i before it"), (16, "never comes to it")]), WHOLE
+    yield "the catch-all behind what is not carried over", (
+        R + block("realm a") + block("realm /@x/", "accountingServer h") + R_REALM + block("realm b", "accountingServer i")
+        + block("realm Example.org", "accountingServer h") + block("realm *", "accountingServer h", "accountingServer h")), (
+            [(12, "a pattern"), (19, "no server i before it"), (21, "has this name"), (24, "of an empty realm"),
+             (24, "not carried over too (3, the first realm a of"), (26, "h is another one")]), WHOLE | BOTH
+    yield "the catch-all behind realms that are carried over, twice", (
+        R + R_REALM + block("realm EXAMPLE.org", "accountingServer h") + block("realm *", "accountingServer h")), (
+            [(13, "has this name"), (16, "of an empty realm")]), WHOLE | BOTH
+    for name in ("/.*/", "/.", "//", "/", "/.+/", "/^.*$/", "/$/", "/^/"):
+        yield f"the pattern {name} of all", R + R_REALM + block(f"realm {name}", "accountingServer h") + block("realm b", "accountingServer h"), (
+            [(13, "of an empty realm"), (16, f"never comes to it, since realm {name} of")]), WHOLE | BOTH
+    for name in ("/@/", "/@./", "/.*@/", "/^.*@.+$/", "/@[^@]+$/", "/^[^@]*@/", "/\\@.*/"):
+        yield f"the pattern {name} of each realm, and another one for the rest", (
+            R + R[R.index("server"):].replace("server h", "server i").replace("2.9", "2.8") + R_REALM + block(f"realm {name}", "accountingServer h")
+            + block("realm b", "accountingServer h") + block("realm /@x/", "accountingServer h") + block("realm *", "accountingServer i")), (
+                [(18, "of an empty realm"), (21, "never comes to it"), (24, "a pattern"), (27, "carried over too (1, the first realm /@x/ of")]), (
+            WHOLE | {"home": HOME + [("i", "192.0.2.8:1813", "def")], "default": "i", "other": "h"})
+    for name in ("/.+@.+/", "/^[^@]+@[^@]+$/", "/^.$/", "/@.$/", "/a|.*/", "/.?@/", "/^$/"):
+        yield f"the pattern {name}, which leaves some", R + R_REALM + block(f"realm {name}", "accountingServer h"), [(13, "a pattern")], WHOLE
+    yield "names without a realm that are kept away, and the catch-all", (
+        R + R_REALM + block("realm /^[^@]+$/") + block("realm *", "accountingServer h")), [(15, "of an empty realm")], WHOLE | {"other": "h"}
+    yield "names without a realm alone", R + R_REALM + block("realm /^[^@]*$/", "accountingServer h"), [], WHOLE | {"default": "h"}
+    yield "each realm that is kept away, and the catch-all", (
+        R + R_REALM + block("realm /@/") + block("realm b", "accountingServer h") + block("realm *", "accountingServer h")), (
+            [(15, "never comes to it")]), WHOLE | {"default": "h"}
     yield "patterns", R + R_REALM + "realm /@.*\\.example$ {\n accountingServer h\n}\nrealm /^a/ {\n}\n", (
         [(13, "a pattern"), (16, "a pattern")]), WHOLE
     yield "a realm behind a pattern that takes it, one that it leaves, and one of which it takes some", (
@@ -188,9 +218,24 @@ def freeradius():
     yield "patterns", F_ALL + 'realm "~.*\\.example$" {\n nostrip\n acct_pool = p\n}\n', [(17, "a pattern")], WHOLE
     yield "the realms NULL and DEFAULT", (
         F_ALL + block("realm NULL", "nostrip", "acct_pool = p") + block("realm DEFAULT", "nostrip", "acct_pool = p")), (
-        [(21, "no catch-all; those of")]), WHOLE | {"default": "h"}
-    yield "the realm DEFAULT", F_ALL + "realm DEFAULT {\n nostrip\n acct_pool = p\n}\n", [(17, "no catch-all; requests without")], (
-        WHOLE | {"default": "h"})
+        [(21, "of an empty realm")]), WHOLE | BOTH
+    yield "the realm DEFAULT", F_ALL + "realm DEFAULT {\n nostrip\n acct_pool = p\n}\n", [(17, "of an empty realm")], WHOLE | BOTH
+    yield "the realm NULL", F_ALL + block("realm NULL", "nostrip", "acct_pool = p"), [], WHOLE | {"default": "h"}
+    second = F[F.index("home"):].replace("server h", "server i").replace("2.9", "2.8") + "home_server_pool q {\n home_server = i\n}\n"
+    yield "the realms DEFAULT and NULL of two home servers", (
+        F_ALL + second + block("realm DEFAULT", "nostrip", "acct_pool = q") + block("realm NULL", "nostrip", "acct_pool = p")), (
+            [(25, "of an empty realm")]), WHOLE | {"home": HOME + [("i", "192.0.2.8:1813", "def")], "default": "h", "other": "i"}
+    yield "the realm DEFAULT that FreeRADIUS takes itself", F_ALL + block("realm DEFAULT") + block("realm NULL", "nostrip", "acct_pool = p"), (
+        [(17, "takes its accounting itself")]), WHOLE | {"default": "h"}
+    yield "the realm DEFAULT beside what is not carried over", (
+        F_ALL + block("realm DEFAULT", "nostrip", "acct_pool = p") + block("realm LOCAL") + block('realm "~\\\\.org$"', "acct_pool = p")), (
+            [(17, "of an empty realm"), (17, "not carried over too (2, the first realm LOCAL of"), (21, "takes its accounting"), (23, "a pattern")]), (
+        WHOLE | BOTH)
+    yield "a pattern that has each realm", (
+        F_ALL + block("realm DEFAULT", "nostrip", "acct_pool = p") + block('realm "~.*"', "nostrip", "acct_pool = p")
+        + block('realm "~."', "nostrip", "acct_pool = p")), (
+            [(17, "never comes to it, since realm ~.* of"), (21, "of an empty realm"), (21, "carried over too (1, the first realm ~. of"),
+             (25, "a pattern")]), WHOLE | BOTH
     yield "stripping", F_ALL.replace(" nostrip\n", ""), [(13, "without nostrip")], WHOLE
     yield "realms of its own", F_ALL + "realm LOCAL {\n}\nrealm b {\n auth_pool = p\n}\nrealm c {\n accthost = LOCAL\n}\nrealm d {\n"\
         " virtual_server = x\n}\n", [(17, "takes its accounting"), (19, "takes its"), (20, "no authentication (realms with it: 1)"),
