@@ -12,6 +12,7 @@ import contextlib
 import ctypes
 import functools
 import io
+import locale
 import os
 import pathlib
 import random
@@ -297,8 +298,22 @@ EXTENDED, WITHOUT_CASE, WITHOUT_PLACES = 1, 2, 8
 PIECES = [b"@", b"@", b".", b"a", b"B", b"example", b"\\.", b"$", b"$", b"^", b"(", b")", b"|", b"*", b"+", b"?", b"[a-b]", b"[^@]", b"[^@]+", b".*",
           b".+", b"org", b"{2}", b"bob", b"(a|b)", b"[.@]", b"[a-c0-9-]", b"[^a-z0-9.]"]
 REALMS, NAMES = [b"example.org", b"A.example", b"b", b"aa", b"bob.b"], [b"a", b"b", b"bob", b"x.y", b"example.org", b"AB", b"bb", b"b.", b"1"]
+# User-Names with a realm behind the last `@`, and without an `@`.
+OF_KINDS = {patterns.REALM: [b"bob@x", b"@x", b"@@x", b"a@b@x", b"a@@x", b"@b@x", b"a b@\xff", b"a@x y", b"\n@\n"], patterns.BARE: [*NAMES, b"\xff", b"\n"]}
 
 
+@contextlib.contextmanager
+def octets_as_characters():
+    """While it lasts no locale is set, as in radsecproxy: an octet is a character."""
+    kept = locale.setlocale(locale.LC_CTYPE)
+    locale.setlocale(locale.LC_CTYPE, "C")
+    try:
+        yield
+    finally:
+        locale.setlocale(locale.LC_CTYPE, kept)
+
+
+@octets_as_characters()
 def patterns_are_those_of_the_system(program, room):
     """Random patterns, as the system's own regcomp(3) reads them, which radsecproxy calls: what is said of all or of none is so of each name."""
     libc, chance, said = ctypes.CDLL(None), random.Random(1), collections.Counter()
@@ -308,12 +323,17 @@ def patterns_are_those_of_the_system(program, room):
         if libc.regcomp(room_of_it, pattern, EXTENDED | WITHOUT_CASE | WITHOUT_PLACES):
             continue
         found = [libc.regexec(room_of_it, name + b"@" + realm, 0, None, 0) == 0 for name in NAMES]
+        takes = {kind: all(libc.regexec(room_of_it, name, 0, None, 0) == 0 for name in names) for kind, names in OF_KINDS.items()}
         libc.regfree(room_of_it)
+        each = patterns.each(b"/" + pattern + b"/")
+        said.update(each)
+        hope(f"what {pattern!r} takes all of", [kind for kind in each if not takes[kind]], [])
         told = patterns.taken(b"/" + pattern + b"/", realm)
         said[told] += 1
         if told == patterns.ALL and not all(found) or told == patterns.NONE and any(found):
             raise AssertionError(f"{pattern!r} of {realm!r}: {told}, and {found}")
     hope("patterns of each kind", all(said[kind] > 500 for kind in (patterns.ALL, patterns.NONE, patterns.SOME)) or said, True)
+    hope("patterns that take each", min(said[patterns.REALM], said[patterns.BARE]) > 100 or said, True)
 
 
 # The first match.
