@@ -650,7 +650,8 @@ def bash_completes_the_words(room):
         "rad_proxyctl restart --force --": "--wait --out --help", "rad_proxyctl restart -c wa": "way.toml",
         "rad_proxyctl trace --user bob --user": "--user", "rad_proxyctl trace --user ": "",
         "rad_proxyctl check wa": "way.toml", "rad_proxyctl check --s": "--strict", "rad_proxyctl check --strict wa": "way.toml",
-        "rad_proxyctl check way.toml ": "--strict --help", "rad_proxyctl check --strict --": "--help",
+        "rad_proxyctl check way.toml ": "--strict --rate --help", "rad_proxyctl check --strict --": "--rate --help",
+        "rad_proxyctl check --rate 5 wa": "way.toml", "rad_proxyctl check --rate ": "",
         "rad_proxy ": "run check replay", "rad_proxy check wa": "way.toml", "rad_proxy replay ": "",
     }
     for words, wanted in cases.items():
@@ -686,6 +687,9 @@ def check_prints_what_is_wrong_and_doubtful(room):
         elif file == wrong:
             hope("the faults", (told[0].startswith(warned), told[-1]), (True, "configuration: Missing at top listen"))
         else:
+            carried = [line for line in told if line.startswith("home ") or line.startswith("  ")]
+            hope("what the numbers carry", (len(carried), told[len(told) - len(carried):]), (6, carried))
+            told = told[:-len(carried)]
             hope("the counts", told[-1] + "\n", counted)
             hope("the warnings", [line for line in told if line.startswith(warned)], told[:-1])
             hope("how many", len(told), 2 if file == doubtful else 1)
