@@ -1,8 +1,8 @@
 """Measures what becomes of records beside a home server that is slow, overrun or away, by the settings of rad_proxy and with its peers.
 
-usage: python3 -m bench.slow_and_bursts PROGRAM [CASE ..]
+usage: python3 -m bench.slow_and_bursts PROGRAM [CASE ..] [NAME ..]
 
-CASE is slow, burst or away; all without one. An access server sends each record up to TRIES times, APART seconds apart, until it is answered.
+CASE is slow, burst or away; all without one. NAME is a part of the name of what is measured, as radsecproxy; all without one. An access server sends each record up to TRIES times, APART seconds apart, until it is answered.
 The home server is a socket of this script that writes each datagram down: what came twice would be written twice. The table is Markdown.
 """
 import collections
@@ -20,7 +20,7 @@ import time
 from dataclasses import dataclass, field
 
 from bench.proxies import CLIENT_SECRET, HOME_SECRET, FreeRadius, RadProxy, Radsecproxy, Setting, wait_until_it_answers
-from tests.lib import ACCT_SESSION_ID, ACCT_STATUS_TYPE, HERE, STATUS_SERVER, answer, attribute, free_ports, read, reply, request, user_name
+from tests.lib import ACCT_SESSION_ID, ACCT_STATUS_TYPE, HERE, PROXY_STATE, STATUS_SERVER, answer, attribute, free_ports, request, user_name
 
 APART, TRIES = 3, 5
 QUIET_SECONDS = 20
@@ -71,6 +71,16 @@ def session_of(octets):
     return octets[at + 2:at + octets[at + 1]]
 
 
+def reply_to(octets):
+    """The home server's answer, with the Proxy-States that came."""
+    at, states = 20, []
+    while at < len(octets):
+        if octets[at] == PROXY_STATE:
+            states.append(octets[at:at + octets[at + 1]])
+        at += octets[at + 1]
+    return answer(octets, octets[1], b"".join(states), HOME_SECRET.encode())
+
+
 def serve(port, case, pipe):
     """The home server: what came, in its order, is sent down the pipe at the end."""
     came, due, is_over, begun, free = [], collections.deque(), [], None, 0.0
@@ -96,7 +106,7 @@ def serve(port, case, pipe):
                 continue
             came.append(session_of(octets))
             free = max(free, now - 0.05) + 1 / case.most if case.most else 0.0
-            due.append((now + case.wait, reply(read(octets), HOME_SECRET.encode()), sender))
+            due.append((now + case.wait, reply_to(octets), sender))
     pipe.send(came)
 
 
@@ -161,9 +171,9 @@ class Nas:
 
 
 def memory_of(process):
-    """The most memory of a process so far, in MB."""
+    """The most memory of a process so far, in MB; 0 of one that has ended."""
     with open(f"/proc/{process.pid}/status", encoding="ascii") as file:
-        return next(int(line.split()[1]) / 1000 for line in file if line.startswith("VmHWM"))
+        return next((int(line.split()[1]) / 1000 for line in file if line.startswith("VmHWM")), 0)
 
 
 def tried(subject, case):
@@ -189,14 +199,16 @@ def tried(subject, case):
     counted = collections.Counter(came)
     first = list(dict.fromkeys(came))
     twice = sum(count > 1 for count in counted.values())
-    return [round(case.rate * case.seconds), nas.answered, len(counted), twice, "yes" if first == sorted(first) else "no", f"{memory:.0f}"]
+    return [round(case.rate * case.seconds), nas.answered, len(counted), twice, "yes" if first == sorted(first) else "no",
+            f"{memory:.0f}" if memory else "it ended"]
 
 
 def main():
-    program, names = pathlib.Path(sys.argv[1]).resolve(), sys.argv[2:] or list(CASES)
+    program, words = pathlib.Path(sys.argv[1]).resolve(), sys.argv[2:]
+    names, parts = [it for it in words if it in CASES] or list(CASES), [it for it in words if it not in CASES] or [""]
     print("case | | records | answered | arrived | twice | in order | MB", "---|---|---:|---:|---:|---:|---|---:", sep="\n")
     for name in names:
-        for subject in subjects(program):
+        for subject in (it for it in subjects(program) if any(part in it.name for part in parts)):
             print(name, subject.name, *(f"{it:,}" if isinstance(it, int) else it for it in tried(subject, CASES[name])), sep=" | ", flush=True)
 
 

@@ -1,5 +1,6 @@
-"""Tries the rules of examples/alerts.yml over the series of alerts-test.yml, by promtool, and rules of which one is another one; and has
-Alertmanager tell the alerts of a cause by examples/alertmanager.yml.
+"""Tries the rules of examples/alerts.yml over series, by promtool, and has Alertmanager tell alerts by examples/alertmanager.yml.
+
+The series are those of alerts-test.yml, and also tried over them are rules of which one is another one.
 
 usage: python3 -m tests.service.alerts --check
 

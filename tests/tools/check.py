@@ -7,10 +7,13 @@ told of it, and the last line, which is that of `rad_proxy check`. The last line
 """
 import os
 import pty
+import re
 import subprocess
+import tomllib
 
 from tests.lib import TOP, environment, hope, need, try_in_folders
 from tests.lib.configurations import CLIENT, HOME, LISTEN, REALM, warning
+from tests.lib.tools.running import run
 
 SECONDS = 60
 WHOLE = LISTEN.replace("127.0.0.1", "0.0.0.0") + CLIENT + HOME + REALM
@@ -317,7 +320,47 @@ def what_the_numbers_carry(program, folder):
         hope(f"{words}", (done.returncode, done.stdout, done.stderr[:7]), (1, b"", b"usage: "))
 
 
-TESTS = [what_the_numbers_carry, ports_of_other_services, times_of_a_stop, addresses_of_clients, secrets_that_are_none, names_that_are_no_realms,
+# The recommended numbers, wherever they stand.
+
+SLOW, AWAY = {"window": 254, "first_wait": 6000}, {"first_wait": 1000, "tries": 2, "probe_every": 1000}
+BURSTS = {"queue": 65536, "book": 200_000}
+OWN = ("name", "address", "secret")
+
+
+def home_of(text):
+    """The numbers of the first home server of a configuration."""
+    home = tomllib.loads(text)["home"][0]
+    return {key: value for key, value in home.items() if key not in OWN}
+
+
+def the_numbers_stand_wherever_one_begins(program, folder):
+    """The example to begin with has those of a slow home server, and the others in a comment; the others have theirs; the page has all."""
+    start, tried, page = (TOP.joinpath(*place).read_text("utf-8") for place in (
+        ("examples", "start.toml"), ("examples", "try.toml"), ("docs", "operating", "sizing.md")))
+    hope("start.toml", home_of(start), SLOW | BURSTS)
+    other = re.sub(r"(?m)^# (?=(first_wait|tries|probe_every) = )", "", re.sub(r"(?m)^first_wait = .*\n", "", start))
+    hope("start.toml with the others", home_of(other), SLOW | AWAY | BURSTS)
+    hope("try.toml", home_of(tried), AWAY)
+    hope("a reason before each number", [line for before, line in zip(start.splitlines(), start.splitlines()[1:])
+                                         if re.match("(window|first_wait|queue|book) = ", line) and not before.startswith("#")], [])
+    for block in (SLOW, AWAY, BURSTS):
+        texts = [f"{key} = {number}" for key, number in block.items()]
+        hope("sizing.md", ", ".join(f"`{text}`" for text in texts) + " | " in page.partition("\n* ")[0], True)
+        hope("the check", any(line.startswith("  " + "; ".join(texts) + ": ") for line in BLOCKS), True)
+    old = folder / "radsecproxy.conf"
+    old.write_text("client 192.0.2.1 {\n type udp\n secret abc\n}\nserver h {\n type udp\n host 192.0.2.9:1813\n secret def\n}\n"
+                   "realm example.org {\n accountingServer h\n}\n")
+    made = run("rad_convert", "radsecproxy", old)
+    hope("rad_convert", (made.returncode, home_of(made.stdout.decode())), (0, SLOW | BURSTS))
+    lines = [line for line in made.stdout.decode().splitlines() if re.match("(window|first_wait|queue|book) = ", line)]
+    hope("each with its reason", [line for line in lines if "  # " not in line], [])
+    file = folder / "start.toml"
+    file.write_text(start.replace("one long random text for this NAS", "kR3vN8qTz1").replace("one long random text for this home server", "pW6xM2cYd4"))
+    done = subprocess.run([Tool(program, folder).ctl, "check", "--strict", "--rate", "4000", file], capture_output=True, text=True, check=False)
+    hope("start.toml by the check, at 4000 a second", (done.returncode, done.stdout.splitlines()[0]), (0, COUNTS))
+
+
+TESTS = [what_the_numbers_carry, the_numbers_stand_wherever_one_begins, ports_of_other_services, times_of_a_stop, addresses_of_clients, secrets_that_are_none, names_that_are_no_realms,
          numbers_that_do_not_fit, all_in_one_go]
 
 

@@ -1,8 +1,8 @@
 """Has each fault befall a proxy of its own, which Prometheus scrapes: which alert fires first, and after how many seconds.
 
-usage: python3 -m tests.service.alerts_by_fault PROGRAM [NAME ..]
+usage: python3 -m bench.alerts_by_fault PROGRAM [NAME ..]
 
-It takes seven minutes, and is no part of the gate. It wants Debian's prometheus, which scrapes and evaluates each 15 seconds. For two minutes and
+It takes seven minutes. It wants Debian's prometheus, which scrapes and evaluates each 15 seconds. For two minutes and
 a half there is no fault, and then no alert may fire. The proxy without a fault has none later either. The table is Markdown; a fault
 that has another first alert than it should have is a failure. The last line is `N passed, M failed`.
 """
@@ -39,6 +39,7 @@ FAULTS = {
     "a home server drops each reply to one NAS": "RadProxyHomeFlaps",
     "the clock is an hour ahead": "RadProxyClockStands",
     "the clock is an hour behind": "RadProxyClockStands",
+    # A lane whose ring is full reads no reply: nothing is lost.
     "a ring of 1 and 60 replies at once": None,
     "a flood of unknown datagrams": "RadProxyStrangers",
 }
@@ -72,9 +73,9 @@ class Place:
 
     def rate(self):
         """How many records come a second."""
-        if not self.is_faulty:
-            return 5
-        return 40 if "40 requests" in self.name else 60 if "ring" in self.name else 5
+        if "ring" in self.name:
+            return 60
+        return 40 if "40 requests" in self.name and self.is_faulty else 5
 
     def ask(self):
         """The NAS: it sends each record up to TRIES times."""
