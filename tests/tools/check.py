@@ -231,6 +231,8 @@ name = "NULL"
 UNCLOSED = WHOLE.replace('"nas-secret"', '"testing123"').replace('"home-secret"', '"""home-secret').replace("2813", "1812")
 SEVERAL_LINES = WHOLE.replace('"h1"\naddress', '"""\nh 1"""\naddress', 1).replace('"nas-secret"', '"testing123"')
 ARRAY = LISTEN + 'client = [\n { address = "10.0.0.1", secret = "a" }\n { address = "0.0.0.0", secret = "testing123" },\n]\n' + HOME + REALM
+MANY = WHOLE[:WHOLE.index("[[home]]")].replace("nas-secret", "testing123") + "".join(
+    HOME.replace("h1", f"s{number}").replace("2813", str(3000 + number)) for number in range(64)) + REALM
 REASON = "invalid value, expected a string, number, boolean, date-time, array or inline table"
 
 
@@ -269,6 +271,9 @@ def of_faults():
         doubt("client 0 secret", "weak-secret", KNOWN)], "configuration: OutOfRange at home 0 name"
     yield "an array of several lines", ARRAY, [
         no_toml(4, 2, "missing comma between array elements, expected `,` or `]`")], TOML
+    yield "as many home servers as there may be", MANY, [
+        fault("UnknownHome at realm 0 home at line 263, column 1: no [[home]] has this name"), doubt("client 0 secret", "weak-secret", KNOWN)], (
+        "configuration: UnknownHome at realm 0 home")
     yield "octets that are no text", WHOLE.replace("h1", "h\xff1", 1).encode("latin-1"), [
         no_toml(6, 10, "no UTF-8"), fault("OutOfRange at home 0 name at line 6, column 1: 1 to 64 letters, digits, -, _ and ."),
         fault("UnknownHome at realm 0 home at line 11, column 1: no [[home]] has this name")], TOML

@@ -22,10 +22,11 @@ CHECK_SECONDS = 600
 MOST_OCTETS, MOST_LOOKS, MOST_TOLD = 1_048_576, 40, 50
 LINE = re.compile(r'level=(?:error|warn) event=([a-z-]+) reason="(.*)"')
 PLACE = re.compile(r"line (\d+), column \d+: (.*)")
-# What counts the faults of a text that are not told one by one, and are at a later look; and the events of a fault.
 # A text that is not UTF-8 is looked at with other letters in place of what is not.
 NO_TEXT = ': no UTF-8"'
-COUNT, NO_TOML, FAULT = "level=error event=configuration-faults ", "no-toml", "configuration-fault"
+# What counts faults and doubts that are not told one by one, and the events of a fault.
+COUNT, DOUBTS = "level=error event=configuration-faults ", "level=warn event=configuration-warnings "
+NO_TOML, FAULT = "no-toml", "configuration-fault"
 
 
 def checker():
@@ -98,13 +99,15 @@ class Look:
         if self.was_toml and not is_now:
             return False
         self.was_toml = is_now
-        for line, event, reason in events:
-            if not self.text.follows(reason):
-                self.say(self.text.at_its_place(line))
+        others = [line for line, _, reason in events if not self.text.follows(reason)]
+        for line in others:
+            self.say(self.text.at_its_place(line))
         wrong = [reason for _, event, reason in events if event in (NO_TOML, FAULT)]
         is_mended = bool(wrong) and all([self.mend(reason) for reason in sorted(wrong, key=line_of, reverse=True)])
+        # What was not told one by one is told at a later look, or may be for the stand-ins alone.
+        is_unknown = tuple([COUNT] * is_mended + [DOUBTS] * (len(others) < len(events)))
         for line in told:
-            if not LINE.fullmatch(line) and line.startswith("level=") and not (is_mended and line.startswith(COUNT)):
+            if not LINE.fullmatch(line) and line.startswith("level=") and not line.startswith(is_unknown):
                 self.say(line)
         return is_mended
 

@@ -9,6 +9,7 @@ HEADER = re.compile(r"\s*\[\[\s*(client|home|realm)\s*\]\]\s*(#.*)?")
 ONE_BRACKET = re.compile(r"(\s*)\[\s*(client|home|realm)\s*\]\s*(#.*)?")
 BROKEN_HEADER = re.compile(r"\s*\[+\s*\"?(client|home|realm)s?\"?\s*\]*\s*(#.*)?")
 KEY = re.compile(r"""\s*["']?([A-Za-z0-9_-]+)["']?\s*(=?)""")
+NAME = re.compile(r"""\s*["']?name["']?\s*=\s*["']([A-Za-z0-9._-]{1,64})["']\s*(?:#.*)?""")
 MULTILINE = re.compile(r'"""|\'\'\'')
 FAULT = re.compile(r"(\w+) at (?:(top) |(client|home|realm) (\d+) )(\w+)(?: at line (\d+), column \d+)?")
 STAND_IN = "stand-in"
@@ -16,7 +17,7 @@ STAND_IN = "stand-in"
 TEXTS = {
     ("top", "listen"): "192.0.2.254:9", ("client", "address"): "240.0.{}.{}", ("client", "secret"): "a stand-in of a secret",
     ("home", "name"): "stand-in-{}-{}", ("home", "address"): "198.18.{}.{}:9", ("home", "secret"): "a stand-in of a secret",
-    ("realm", "name"): "stand-in-{}-{}.invalid", ("realm", "home"): STAND_IN,
+    ("realm", "name"): "stand-in-{}-{}.invalid",
 }
 TABLES = {"client": ("address", "secret"), "home": ("name", "address", "secret"), "realm": ("name", "home")}
 
@@ -106,12 +107,20 @@ class Text:
         self.has_other_names |= (part, key) == ("home", "name")
         self.is_unsure |= (part, key) in (("home", "name"), ("realm", "home"), ("top", "default_home"))
         self.count += 1
-        if (part, key) in TEXTS:
-            if key == "home":
-                self.add_home()
+        if key == "home":
+            self.lines[at][1] = f'home = "{self.some_home()}"'
+        elif (part, key) in TEXTS:
             self.lines[at][1] = with_stand_in(part, key, self.count)
         else:
             self.lines[at][1] = ""
+
+    def some_home(self):
+        """The name of a home server, of which there may be as many as there may be; of one that is added where there is none."""
+        for at, part, _, key in self.keys():
+            if (part, key) == ("home", "name") and (found := NAME.fullmatch(self.lines[at][1])):
+                return found[1]
+        self.add_home()
+        return STAND_IN
 
     def add_home(self):
         """Adds the home server that stands in."""
