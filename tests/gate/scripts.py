@@ -108,6 +108,7 @@ SCRIPTS = [
     Script("ledger/shares", is_alone=True),
     Script("ledger/disk_faults", is_alone=True),
     Script("ledger/auditor_spoiled_lines", AUDITOR, is_alone=True),
+    Script("tools/check"),
     Script("tools/judge"),
     Script("tools/trial", is_alone=True),
     Script("tools/moving"),

@@ -1,19 +1,29 @@
-"""Tries the rules of examples/alerts.yml over the series of alerts-test.yml, by promtool, and rules of which one is another one.
+"""Tries the rules of examples/alerts.yml over series, by promtool, and has Alertmanager tell alerts by examples/alertmanager.yml.
+
+The series are those of alerts-test.yml, and also tried over them are rules of which one is another one.
 
 usage: python3 -m tests.service.alerts --check
 
-A test is a function below; its first line says what holds. Those that want promtool (Debian's package prometheus) are left out where it
-is not here. The last line is `N passed, M failed`.
+A test is a function below; its first line says what holds. Those that want promtool or Alertmanager (Debian's packages prometheus and
+prometheus-alertmanager) are left out where it is not here. The last line is `N passed, M failed`.
 """
+import contextlib
+import http.server
+import json
+import math
 import pathlib
 import re
 import subprocess
 import tempfile
+import threading
+import time
+import urllib.request
 
-from tests.lib import TOP, hope, need, try_each, trying
+from tests.lib import HERE, TOP, free_port, hope, need, started, try_each, trying, until
 from tests.lib.tools.running import want
 
 RULES = TOP / "examples" / "alerts.yml"
+MANAGER = TOP / "examples" / "alertmanager.yml"
 SERIES = TOP / "tests" / "service" / "alerts-test.yml"
 RULE = re.compile(r"^      - alert: (\w+)\n(?:        #.*\n)*        expr: (?:>-\n(?:          .*\n)+|.*\n)", re.M)
 # In place of the rule of this name one that fires from one look of a file that cron writes once a minute.
@@ -23,7 +33,8 @@ FROM_ONE_LOOK = {
     "RadProxyRecordStuck": "rad_proxy_oldest_outstanding_age_seconds > 75 and time() - rad_proxy_last_answer_time_seconds < 60",
     "RadProxyClockStands": "time() - rad_proxy_report_time_seconds > 60",
 }
-AT_ONCE = ["RadProxyRecordStuck", "RadProxyBookFills", "RadProxyQueueFills", "RadProxyQueueWaits", "RadProxyLedgerWaits", "RadProxyLedgerUnsynced"]
+AT_ONCE = ["RadProxyRecordStuck", "RadProxyBookFills", "RadProxyQueueFills", "RadProxyQueueWaits", "RadProxyHomeSlow", "RadProxyClientUnanswered",
+           "RadProxyLedgerWaits", "RadProxyLedgerUnsynced"]
 
 
 def rules():
@@ -94,8 +105,179 @@ def no_rule_may_fire_from_one_look():
     see_refused(AT_ONCE, rules().replace("        for: 75s\n", ""), "by the minute.*")
 
 
+# A day without a fault, by the minute: 20 to 120 records a second with a burst each six hours, a home server that is marked down once for
+# six seconds, and some datagrams that are dropped. Each series is what its name has at a minute.
+DAY_MINUTES = 1440
+
+
+def sum_to(rate):
+    """A counter that rises by so much in each minute."""
+    values, total = [], 0
+    for minute in range(DAY_MINUTES):
+        total += rate(minute)
+        values.append(total)
+    return values
+
+
+def records(minute):
+    """How many records come in a minute: by the time of day, and four times as many in five minutes each six hours."""
+    return round(60 * (70 - 50 * math.cos(2 * math.pi * minute / DAY_MINUTES)) * (4 if minute % 360 < 5 else 1))
+
+
+def of_day():
+    """The series of the day."""
+    home, client, each = '{lane="0",home="h1"}', '{client="192.0.2.10"}', range(DAY_MINUTES)
+    yield f"rad_proxy_home_up{home}", [1 for _ in each]
+    yield f"rad_proxy_home_down_seconds_total{home}", [6 if minute >= 700 else 0 for minute in each]
+    yield f"rad_proxy_downs_total{home}", [int(minute >= 700) for minute in each]
+    yield f"rad_proxy_outstanding{home}", [records(minute) // 600 for minute in each]
+    yield f"rad_proxy_queued{home}", [300 if minute % 360 < 5 else 0 for minute in each]
+    yield f"rad_proxy_queue_limit{home}", [4096 for _ in each]
+    yield f"rad_proxy_oldest_queued_age_seconds{home}", [0.8 if minute % 360 < 5 else 0 for minute in each]
+    yield f"rad_proxy_oldest_outstanding_age_seconds{home}", [0.05 for _ in each]
+    yield f"rad_proxy_last_answer_time_seconds{home}", [60 * minute for minute in each]
+    yield f"rad_proxy_home_report_time_seconds{home}", [60 * minute for minute in each]
+    yield "rad_proxy_report_time_seconds", [60 * minute for minute in each]
+    yield f"rad_proxy_book{home}", [min(30 * records(minute) // 60, 50_000) for minute in each]
+    yield f"rad_proxy_book_limit{home}", [100_000 for _ in each]
+    for name in ("received", "accepted", "responses"):
+        yield f"rad_proxy_client_{name}_total{client}", sum_to(records)
+    yield 'rad_proxy_client_received_total{client="192.0.2.11"}', sum_to(lambda minute: records(minute) // 40)
+    yield 'rad_proxy_client_dropped_total{client="192.0.2.10",reason="NoRealm"}', sum_to(lambda minute: int(minute % 7 == 0))
+    yield "rad_proxy_strangers_total", sum_to(lambda minute: int(minute % 11 == 0))
+    for name, part in (("0.25", 60), ("2", 99), ("4", 100), ("+Inf", 100)):
+        yield f'rad_proxy_response_seconds_bucket{{lane="0",home="h1",le="{name}"}}', sum_to(lambda minute, part=part: records(minute) * part // 100)
+
+
+def a_day_without_a_fault_fires_none():
+    """Over a day of load with bursts, and with some drops, no alert fires at any minute."""
+    want("promtool")
+    series = [{"series": name, "values": " ".join(map(str, values))} for name, values in of_day()]
+    asked = [{"eval_time": f"{minute}m", "alertname": name} for name in names(rules()) for minute in range(20, DAY_MINUTES, 5)]
+    text = {"rule_files": [RULES.name], "evaluation_interval": "1m", "tests": [{"interval": "1m", "input_series": series, "alert_rule_test": asked}]}
+    with tempfile.TemporaryDirectory() as folder:
+        pathlib.Path(folder, RULES.name).write_text(rules(), "utf-8")
+        pathlib.Path(folder, "day.yml").write_text(json.dumps(text), "utf-8")
+        ran = subprocess.run(["promtool", "test", "rules", "day.yml"], cwd=folder, capture_output=True, text=True, check=False)
+    need(ran.returncode == 0, (ran.stdout + ran.stderr)[:2000])
+
+
+# What is told of the alerts of a cause. An alert is its name and its labels; a message is a receiver, and the alerts that it has.
+
+CRITICAL = {"RadProxyGone", "RadProxyHomeDown", "RadProxyHomeSilent", "RadProxyClientUnanswered", "RadProxyLedgerWaits", "RadProxyLedgerUnsynced",
+            "RadProxyLedgerDrops", "RadProxyClockStands", "RadProxyLaneStands"}
+
+
+def alert(name, instance, **labels):
+    return {"alertname": name, "job": "rad_proxy", "instance": instance, "severity": "critical" if name in CRITICAL else "warning"} | labels
+
+
+def of_home(instance, home, *names_of_alerts):
+    return [alert(name, instance, lane="0", home=home) for name in names_of_alerts]
+
+
+# The alerts of each cause, and what is told: of another home server, and of another proxy, as much as ever.
+CAUSES = {
+    "a home server dies": (
+        [*of_home("a", "h1", "RadProxyHomeSilent", "RadProxyHomeDown", "RadProxyHomeFlaps", "RadProxyQueueWaits", "RadProxyQueueFills"),
+         alert("RadProxyClientUnanswered", "a", client="192.0.2.10"), alert("RadProxyRefuses", "a", reason="QueueFull"),
+         *of_home("a", "h2", "RadProxyQueueWaits"), alert("RadProxyRefuses", "b", reason="BookFull")],
+        [("call", "RadProxyHomeDown h1"), ("mail", "RadProxyQueueWaits h2"), ("mail", "RadProxyRefuses b")]),
+    "a home server is slow": (
+        of_home("c", "h1", "RadProxyHomeSlow", "RadProxyHomeFlaps", "RadProxyQueueWaits"), [("mail", "RadProxyHomeSlow h1")]),
+    "one record is never answered": (
+        of_home("d", "h1", "RadProxyRecordStuck", "RadProxyHomeFlaps", "RadProxyBookFills"), [("mail", "RadProxyRecordStuck h1")]),
+    "the ledger's disk is full": (
+        [alert(f"RadProxyLedger{what}", "e") for what in ("Waits", "Unsynced", "Drops")], [("call", "RadProxyLedgerDrops e, RadProxyLedgerWaits e")]),
+    "the clock stands": (
+        [alert("RadProxyClockStands", "f"), *of_home("f", "h1", "RadProxyLaneStands")], [("call", "RadProxyClockStands f")]),
+}
+GONE = [alert("RadProxyHomeDown", "g", lane="0", home="h1"), alert("RadProxyStrangers", "g"),
+        {"alertname": "RadProxyGone", "severity": "critical"}]
+
+
+class Receivers:
+    """Listens for what Alertmanager tells: each message as its receiver and a text of its alerts."""
+
+    def __init__(self):
+        told = self.told = set()
+
+        class Listener(http.server.BaseHTTPRequestHandler):
+            def do_POST(self):
+                message = json.loads(self.rfile.read(int(self.headers["Content-Length"])))
+                found = sorted(f"{it['alertname']} {it.get('home', it.get('instance', '-'))}" for it in (one["labels"] for one in message["alerts"]))
+                told.add((message["receiver"], ", ".join(found)))
+                self.send_response(200)
+                self.end_headers()
+
+            def log_message(self, *_):
+                pass
+
+        self.server = http.server.ThreadingHTTPServer((HERE, 0), Listener)
+        threading.Thread(target=self.server.serve_forever, daemon=True).start()
+
+
+def posted(port, alerts):
+    asked = urllib.request.Request(f"http://{HERE}:{port}/api/v2/alerts", json.dumps([{"labels": it} for it in alerts]).encode(),
+                                   {"Content-Type": "application/json"})
+    with contextlib.suppress(OSError), urllib.request.urlopen(asked, timeout=5) as got:
+        return got.status == 200
+    return False
+
+
+def told_by(text, alerts):
+    """What Alertmanager tells of these alerts by a configuration."""
+    receivers, port = Receivers(), free_port()
+    text = text.replace("http://127.0.0.1:9095", f"http://{HERE}:{receivers.server.server_port}").replace("group_wait: 30s", "group_wait: 1s")
+    with tempfile.TemporaryDirectory() as folder:
+        pathlib.Path(folder, "it.yml").write_text(text, "utf-8")
+        words = ["prometheus-alertmanager", f"--config.file={folder}/it.yml", f"--storage.path={folder}/data", "--cluster.listen-address=",
+                 f"--web.listen-address={HERE}:{port}"]
+        with started(words, stdout=subprocess.DEVNULL, stderr=subprocess.DEVNULL):
+            until("it takes alerts", lambda: posted(port, alerts))
+            time.sleep(2.5)
+    receivers.server.shutdown()
+    receivers.server.server_close()
+    return receivers.told
+
+
+def one_cause_calls_once():
+    """Each cause is told once, by its own alert; what befalls another home server or proxy at the same time is told too."""
+    want("amtool", "prometheus-alertmanager")
+    subprocess.run(["amtool", "check-config", MANAGER], capture_output=True, check=True)
+    text = MANAGER.read_text("utf-8")
+    wanted = {message for _, messages in CAUSES.values() for message in messages}
+    hope("what is told", sorted(told_by(text, [it for alerts, _ in CAUSES.values() for it in alerts])), sorted(wanted))
+    hope("no proxy is there", sorted(told_by(text, GONE)), [("call", "RadProxyGone -")])
+
+
+def each_rule_of_inhibition_holds_one_back():
+    """Without any one of these rules more is told."""
+    want("prometheus-alertmanager")
+    text = MANAGER.read_text("utf-8")
+    blocks = re.findall(r"(?m)^(?:  #.*\n)*  - source_matchers.*\n(?:    .*\n)*", text)
+    head = text[:text.index(blocks[0])]
+    hope("rules", head + "".join(blocks), text)
+    alerts = [it for given, _ in CAUSES.values() for it in given]
+    whole = {True: told_by(head + "".join(blocks), GONE), False: told_by(head + "".join(blocks), alerts)}
+    for at, block in enumerate(blocks):
+        is_gone = "RadProxyGone" in block
+        found = told_by(head + "".join(blocks[:at] + blocks[at + 1:]), GONE if is_gone else alerts)
+        need(len(found - whole[is_gone]) > 0, "nothing is told without", block)
+
+
+def alerts_of_the_rules_are_known():
+    """What the rules of inhibition name is an alert, with the severity that the causes here have."""
+    known, text = set(names(rules())), MANAGER.read_text("utf-8")
+    named = set(re.findall(r"RadProxy\w+", text))
+    hope("unknown", sorted(named - known), [])
+    severities = dict(re.findall(r"- alert: (\w+)\n(?:.*\n)*?        labels: {severity: (\w+)}", rules()))
+    hope("critical ones", sorted(name for name in named if severities[name] == "critical"), sorted(named & CRITICAL))
+
+
 TESTS = [each_rule_fires_where_it_should, each_rule_has_both_kinds_of_series, no_rule_may_fire_always_or_never,
-         no_rule_may_fire_from_one_look]
+         no_rule_may_fire_from_one_look, a_day_without_a_fault_fires_none, one_cause_calls_once, each_rule_of_inhibition_holds_one_back,
+         alerts_of_the_rules_are_known]
 
 
 if __name__ == "__main__":

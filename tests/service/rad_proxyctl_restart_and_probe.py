@@ -8,6 +8,7 @@ service, or one that stands for systemctl, which wants root. The last line is `N
 import contextlib
 import os
 import re
+import select
 import shutil
 import signal
 import socket
@@ -17,8 +18,8 @@ import threading
 import time
 
 from tests.lib import (ACCT_SESSION_ID, HERE, HOME_SECRET, NAS_SECRET, STATUS_SERVER, TOP, LeftOut, Server, answer, answered, attribute,
-                       best, bound, configured, environment, free_port, hope, is_right_status, is_so, need, packet, read, request_of_nas,
-                       try_named, until)
+                       best, bound, configured, environment, free_port, hope, is_right_status, is_signed, is_so, need, packet, read, reply,
+                       request_of_nas, try_named, until)
 
 PATIENCE = 60
 MISCONFIGURED, LEFT_OVER, FAILED, REFUSED = 2, 3, 4, 5
@@ -105,7 +106,7 @@ class Room:
 
     def __init__(self, program, room):
         self.room, self.run, self.port = room, room / "run" / "rad_proxy", free_port()
-        self.home, self.dead = PacedHome(), free_port()
+        self.home, self.dead, self.others = PacedHome(), free_port(), [PacedHome()]
         subprocess.run(["make", "-s", "install-proxy", f"PREFIX={room}/usr", f"SYSCONFDIR={room}/etc", f"RUNDIR={room}/run",
                         f"STATEDIR={room}/var", f"PROGRAM={program}"], cwd=TOP, check=True)
         self.ctl, self.file = room / "usr/sbin/rad_proxyctl", room / "etc/rad_proxy/rad_proxy.toml"
@@ -118,9 +119,9 @@ class Room:
         for name in ("RUNTIME_DIRECTORY", "NOTIFY_SOCKET", "JOURNAL_STREAM"):
             self.environment.pop(name, None)
 
-    def configure(self, keys="", client=HERE):
-        servers = [Server("h1", self.home.port, keys, "example.org", HOME_SECRET.decode()), Server("h2", self.dead, keys, "example.net")]
-        self.file.write_text(configured(f"{HERE}:{self.port}", servers, [client], NAS_SECRET.decode()))
+    def configure(self, keys="", clients=(HERE,), secret=HOME_SECRET.decode()):
+        servers = [Server("h1", self.home.port, keys, "example.org", secret), Server("h2", self.dead, keys, "example.net")]
+        self.file.write_text(configured(f"{HERE}:{self.port}", servers, clients, NAS_SECRET.decode()))
 
     def write(self, name, text):
         path = self.room / name
@@ -159,7 +160,8 @@ class Room:
                 nas.sendto(request_of_nas(number % 256, attribute(ACCT_SESSION_ID, b"s%05d" % number)), (HERE, self.port))
 
     def stop(self):
-        self.home.stop()
+        for home in (self.home, *self.others):
+            home.stop()
         with contextlib.suppress(OSError, ValueError):
             pid = int((self.room / "pid").read_text())
             os.killpg(pid, signal.SIGKILL)
@@ -401,6 +403,112 @@ def a_restart_loses_nothing(room):
     nas.join()
     hope("at the NAS", sorted(nas.answered), list(range(500)))
     hope("at the home server", room.home.sessions(), {b"s%05d" % number: 1 for number in range(500)})
+
+
+class StrictHome(PacedHome):
+    """A home server that drops what is not signed by its secret, and keeps the rest."""
+
+    def __init__(self, secret):
+        self.secret = secret
+        super().__init__()
+
+    def serve(self):
+        while not self.is_over:
+            with contextlib.suppress(TimeoutError, ConnectionError):
+                octets, proxy = self.ear.recvfrom(4096)
+                packet = read(octets)
+                if packet.code == STATUS_SERVER:
+                    if is_right_status(packet, self.secret):
+                        self.ear.sendto(answer(octets, packet.identifier, b"", self.secret), proxy)
+                elif is_signed(packet, bytes(16), self.secret):
+                    self.came.append(octets)
+                    self.ear.sendto(reply(packet, self.secret), proxy)
+
+
+def under_load(room, count, change):
+    """Has a NAS send records while something is changed, and sees that each is answered, and at a home server once."""
+    nas = PersistentNas(room.port, count, 50)
+    nas.start()
+    time.sleep(1)
+    homes = change()
+    nas.join()
+    hope("at the NAS", sorted(nas.answered), list(range(count)))
+    found = [home.sessions() for home in homes]
+    hope("at the home servers", sorted(name for one in found for name, times in one.items() for _ in range(times)),
+         [b"s%05d" % number for number in range(count)])
+    return [len(one) for one in found]
+
+
+def restarted(room):
+    done = room.ask("restart")
+    hope("restart", (done.returncode, done.stderr, done.stdout.splitlines()[-1:]), (0, "", ["restarted"]))
+
+
+def a_client_is_added(room):
+    """A client that is added is answered after a restart, in which nothing that the other one sends is lost."""
+    room.home.rate = 200
+    room.start()
+    asked = request_of_nas(7, attribute(ACCT_SESSION_ID, b"s99999"))
+
+    def is_answered(nas):
+        nas.sendto(asked, (HERE, room.port))
+        return bool(select.select([nas], [], [], 1)[0]) and len(nas.recv(4096)) > 0
+
+    def change():
+        with contextlib.closing(bound("127.0.0.5")) as nas:
+            hope("before", is_answered(nas), False)
+            room.configure(clients=(HERE, "127.0.0.5"))
+            hope("check", room.ask("check", "--strict").returncode, 0)
+            restarted(room)
+            hope("behind", is_answered(nas), True)
+        room.home.came = [octets for octets in room.home.came if b"s99999" not in octets]
+        return [room.home]
+
+    under_load(room, 300, change)
+
+
+def a_home_server_is_replaced(room):
+    """What the old one has accepted it answers before the restart, and all later records come to the new one."""
+    room.home.rate = 200
+    old, room.others[0].rate = room.home, 200
+    room.start()
+
+    def change():
+        room.home = room.others[0]
+        room.configure()
+        restarted(room)
+        return [old, room.home]
+
+    at_old, at_new = under_load(room, 300, change)
+    need(at_old > 20 and at_new > 20, at_old, at_new)
+    room.others[0] = old
+
+
+def a_secret_of_a_home_server_is_replaced(room):
+    """The proxy first, and the home server within seconds: each record comes once. The home server first: the restart is refused."""
+    old, new = HOME_SECRET, b"the next secret"
+    room.home.stop()
+    room.home = StrictHome(old)
+    room.configure()
+    room.start()
+
+    def change():
+        room.configure(secret=new.decode())
+        restarted(room)
+        time.sleep(1.5)
+        room.home.secret = new
+        return [room.home]
+
+    under_load(room, 300, change)
+    room.home.secret = old
+    room.send(1, 900)
+    until("it is down", lambda: room.lanes()[0][3] == "down", 30)
+    room.configure()
+    done = room.ask("restart")
+    hope("refused", (done.returncode, "h1" in done.stdout + done.stderr), (REFUSED, True))
+    hope("what waits", room.lanes()[0][10], "1")
+    room.home.secret = new
+    until("it is answered", lambda: room.lanes()[0][10] == "0", 30)
 
 
 def waits_and_says_what_is_left(room):
@@ -650,7 +758,8 @@ def bash_completes_the_words(room):
         "rad_proxyctl restart --force --": "--wait --out --help", "rad_proxyctl restart -c wa": "way.toml",
         "rad_proxyctl trace --user bob --user": "--user", "rad_proxyctl trace --user ": "",
         "rad_proxyctl check wa": "way.toml", "rad_proxyctl check --s": "--strict", "rad_proxyctl check --strict wa": "way.toml",
-        "rad_proxyctl check way.toml ": "--strict --help", "rad_proxyctl check --strict --": "--help",
+        "rad_proxyctl check way.toml ": "--strict --rate --help", "rad_proxyctl check --strict --": "--rate --help",
+        "rad_proxyctl check --rate 5 wa": "way.toml", "rad_proxyctl check --rate ": "",
         "rad_proxy ": "run check replay", "rad_proxy check wa": "way.toml", "rad_proxy replay ": "",
     }
     for words, wanted in cases.items():
@@ -686,6 +795,9 @@ def check_prints_what_is_wrong_and_doubtful(room):
         elif file == wrong:
             hope("the faults", (told[0].startswith(warned), told[-1]), (True, "configuration: Missing at top listen"))
         else:
+            carried = [line for line in told if line.startswith("home ") or line.startswith("  ")]
+            hope("what the numbers carry", (len(carried), told[len(told) - len(carried):]), (6, carried))
+            told = told[:-len(carried)]
             hope("the counts", told[-1] + "\n", counted)
             hope("the warnings", [line for line in told if line.startswith(warned)], told[:-1])
             hope("how many", len(told), 2 if file == doubtful else 1)
@@ -701,7 +813,7 @@ TESTS = [
     bash_completes_the_words, check_prints_what_is_wrong_and_doubtful,
     words_are_told_apart, relative_paths_hold, probe_sends_a_status_server, probe_of_a_home_server, three_datagrams_come_soon, strangers_do_not_fail_a_check,
     probe_takes_no_other_answer, probe_says_what_is_wrong_here,
-    probe_of_a_proxy, a_restart_loses_nothing, waits_and_says_what_is_left, restarts_when_the_time_is_over,
+    probe_of_a_proxy, a_restart_loses_nothing, a_client_is_added, a_home_server_is_replaced, a_secret_of_a_home_server_is_replaced, waits_and_says_what_is_left, restarts_when_the_time_is_over,
     refuses_while_a_home_server_is_down, refuses_where_the_rate_is_too_low, a_wrong_configuration_drains_nothing,
     root_has_the_owner_check, one_restarts_it_at_a_time, whoever_restarts_it_meanwhile_ends_it, a_check_sees_it_go,
     without_a_way_nothing_is_drained, systemd_restarts_the_unit,

@@ -50,7 +50,7 @@ def restart(call):
 def check(call):
     from .check import check as look
 
-    return look(call.config, call.is_strict)
+    return look(call.config, call.is_strict, call.rate)
 
 
 def trace(call):

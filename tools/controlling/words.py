@@ -12,7 +12,7 @@ USAGE = """\
 usage: rad_proxyctl [-i NAME | -d DIR] state | drain | top | metrics [FILE] | http
        rad_proxyctl [-i NAME] probe [-s ADDRESS:PORT | --home NAME] [-c CONFIG] [--timeout SECONDS]
        rad_proxyctl [-i NAME | -d DIR] restart [-c CONFIG] [--wait SECONDS] [--out SECONDS] [--force]
-       rad_proxyctl [-i NAME] check [--strict] [FILE]
+       rad_proxyctl [-i NAME] check [--strict] [--rate N] [FILE]
        rad_proxyctl [-i NAME | -d DIR] trace [--user NAME | --session ID | --client ADDRESS] [--seconds SECONDS]
        rad_proxyctl --help | --version
 """
@@ -26,7 +26,7 @@ Asks a rad_proxy that runs as a service.
   http            answers one HTTP request on standard input with the metrics
   probe           sends a Status-Server and prints the time to the answer; ends with 1 without one
   restart         drains, waits until all is answered, and restarts the service
-  check [FILE]    prints each fault of a configuration, and what is doubtful in it
+  check [FILE]    prints each fault of a configuration, what is doubtful in it, and what its numbers carry
   trace           prints the lines of the log about a user, a session or a client
 
   -i NAME         the service rad_proxy@NAME, in place of rad_proxy
@@ -40,13 +40,14 @@ Asks a rad_proxy that runs as a service.
   --seconds S     how long it is traced; default {trace}
   --force         restarts though a home server is down, or a queue too long
   --strict        ends with {doubtful} where the check has a warning and no fault
+  --rate N        the requests a second to each home server that the check counts with
 
 rad_proxyctl(8) has the rest.
 """
 COMMANDS = ("state", "drain", "top", "metrics", "http", "probe", "restart", "check", "trace")
 # The options of each command that have a value, and those that have none. Some take their value behind `=` too.
 VALUES = {"": ("-i", "-d"), "probe": ("-s", "--home", "-c", "--timeout"), "restart": ("-c", "--wait", "--out"),
-          "trace": ("--user", "--session", "--client", "--seconds")}
+          "check": ("--rate",), "trace": ("--user", "--session", "--client", "--seconds")}
 FLAGS = {"restart": ("--force",), "check": ("--strict",)}
 DIGITS = frozenset("0123456789")
 
@@ -63,7 +64,7 @@ class Call:
         self.word = self.file = self.server = self.home = self.seconds = ""
         self.folder, self.unit = absolute(given or f"{places.RUN}/rad_proxy"), "" if given else "rad_proxy"
         self.config, self.wanted = configuration_of(""), []
-        self.wait, self.out = bounds.DRAIN_SECONDS, 0
+        self.wait, self.out, self.rate = bounds.DRAIN_SECONDS, 0, 0
         self.is_forced = self.is_strict = self.is_named = False
 
 
@@ -107,6 +108,10 @@ def take_value(call, option, value):
         call.wait = whole(value)
     elif option == "--out":
         call.out = whole(value)
+    elif option == "--rate":
+        call.rate = whole(value)
+        if call.rate == 0:
+            raise Misused
     elif option == "--seconds":
         if whole(value) == 0:
             raise Misused

@@ -13,6 +13,11 @@ SECRET = 128
 REALM = 252
 NAME = 64
 OCTETS = 1_048_576
+# The numbers of a home server that is not known, with the reason of each: those of examples/start.toml.
+NUMBERS = ["window = 254        # outstanding at once, the most of one port: 63 a second at four seconds an answer",
+           "first_wait = 6000   # longer than the slowest answer; 1000, with tries = 2 and probe_every = 1000, if it is rather absent than slow",
+           "queue = 65536       # thousands of requests at once, and an outage: 655 s at 100 a second",
+           "book = 200000       # room for these, and for 4000 a second within a span; a full one takes 140 MB"]
 
 
 class Unfit(Exception):
@@ -181,6 +186,7 @@ class Site:
         for block in (block for blocks in self.blocks.values() for block in blocks):
             lines += ["", *(f"# {line}" for line in block.comment), f"[[{block.part}]]"]
             lines += [f"{key} = {quoted(value)}" for key, value in block.values.items()]
+            lines += NUMBERS if block.part == "home" else []
         text = "\n".join(lines) + "\n"
         if len(text.encode()) > OCTETS:
             raise Fault(f"the configuration has more than {OCTETS} octets")

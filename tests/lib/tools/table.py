@@ -5,6 +5,8 @@ All addresses are the machine's own, so that each of the three proxies can serve
 import dataclasses
 
 FRONT = "127.0.0.1"
+# What each home server has besides: the numbers of examples/start.toml.
+NUMBERS = {"window": 254, "first_wait": 6000, "queue": 65536, "book": 200_000}
 
 # What the secrets of the clients have in them; the others are plain.
 ODD = [
@@ -57,7 +59,7 @@ class Site:
         return {
             "listen": f"{FRONT}:{self.port}",
             "client": [{"address": one.address, "secret": one.secret.decode()} for one in self.clients],
-            "home": [{"name": one.name, "address": f"{one.address}:{one.port}", "secret": one.secret.decode()} for one in self.homes],
+            "home": [{"name": one.name, "address": f"{one.address}:{one.port}", "secret": one.secret.decode()} | NUMBERS for one in self.homes],
             "realm": [{"name": one.name, "home": one.home} for one in self.realms],
         }
 
