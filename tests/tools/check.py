@@ -124,10 +124,15 @@ def of_secrets():
             yield WHOLE.replace(f'"{old}"', f'"{secret}"'), [doubt(spot, "weak-secret", reason)] if reason else []
 
 
+NULL = "a realm of this name: default_home takes names without a realm, other_home all realms that are not listed"
+
+
 def of_realms():
-    words = [(name, f"FreeRADIUS has it for {what}; here it is {LEAVES}")
-             for name, what in (("DEFAULT", "each realm that has no other"), ("NULL", "names without a realm"), ("LOCAL", "its own users"))]
-    for name, reason in (*words, ("default", None), ("~^(.*\\\\.)?example\\\\.org$", PATTERN), ("example.(org|net)", PATTERN),
+    told = "a realm of this name, not each realm: other_home takes all that are not listed"
+    for name, reason in (("DEFAULT", told), ("default", told), ("*", told),
+                         ("NULL", NULL), ("LOCAL", f"FreeRADIUS has it for its own users; here it is {LEAVES}"),
+                         ("~^(.*\\\\.)?example\\\\.org$", "it begins with ~, but a realm is a name, not a pattern: other_home takes all that are not listed"),
+                         ("example.(org|net)", PATTERN),
                          ("corp\\\\users", PATTERN), ("*.example.org", ENDING), (".example.org", ENDING), ("example.org ", "it has a blank"),
                          (" example.org", "it has a blank"), ("example .org", "it has a blank"), ("example-1.org", None), ("b\u00fccher.de", None)):
         yield WHOLE.replace('"example.org"', f'"{name}"'), [doubt("realm 0 name", "realm-name", reason)] if reason else []
@@ -258,9 +263,9 @@ def of_faults():
     yield "what is not there", WITHOUT, [
         fault("Missing at top listen: it is needed"), fault("Missing at client 0 address at line 1, column 3: it is needed"),
         fault("Missing at home 0 address at line 3, column 3: it is needed"), fault("Missing at realm 0 home at line 7, column 3: it is needed"),
-        doubt("home 0 secret", "weak-secret", SHORT, 5), doubt("client 0 secret", "weak-secret", KNOWN, 2),
-        doubt("home 0 tries", "one-try", "one datagram that is lost has it marked down", 6),
-        doubt("realm 0 name", "realm-name", f"FreeRADIUS has it for names without a realm; here it is {LEAVES}", 8)], (
+        doubt("home 0 secret", "weak-secret", SHORT, 5), doubt("realm 0 name", "realm-name", NULL, 8),
+        doubt("client 0 secret", "weak-secret", KNOWN, 2),
+        doubt("home 0 tries", "one-try", "one datagram that is lost has it marked down", 6)], (
         "configuration: Missing at top listen")
     yield "a text that is not closed", UNCLOSED, [
         no_toml(12, 1, "invalid string"), doubt("client 0 secret", "weak-secret", KNOWN),

@@ -8,8 +8,8 @@ OTHER_PORTS = {1812: "authentication: accounting has 1813", 1645: "authenticatio
 KNOWN_SECRETS = {"testing123", "testing123-1", "testing123-2", "xyzzy5461", "radiussecret", "sharedsecret", "shared_secret", "mysecret",
                  "changeme", "password", "secret123"}
 VARIABLE = re.compile(r"\$\{.*|\$ENV\{.*|%\{.*|\{\{.*|<.*>|@[A-Z_]+@")
-# What FreeRADIUS names by these realms.
-WORDS = {"DEFAULT": "each realm that has no other", "NULL": "names without a realm", "LOCAL": "its own users"}
+# The names that other servers take for all realms or for none, of which the program tells in letters of either case.
+CATCH_ALLS = {"*", "default", "null"}
 PATTERN = re.compile(r"[~^$()\[\]{}|\\+?]")
 # The least `linger` that is not 0 and the greatest, in ms: a unit of systemd stops for 90 s, ten of them for the ledger.
 LEAST_LINGER, MOST_LINGER = 1000, 80_000
@@ -64,10 +64,10 @@ def of_realm(name):
     """What is doubtful in the name of a realm, where something is that the program does not tell."""
     if any(letter.isspace() for letter in name):
         return "it has a blank"
-    if name in WORDS:
-        return f"FreeRADIUS has it for {WORDS[name]}; here it is a realm of this name"
-    if name.startswith(("/", "*")) and len(name) == 1 or name.startswith("/"):
+    if name.lower() in CATCH_ALLS or name.startswith(("/", "~")):
         return None
+    if name == "LOCAL":
+        return "FreeRADIUS has it for its own users; here it is a realm of this name"
     if name.startswith(("*", ".")):
         return "it begins with * or ., but a realm is a whole name, not the end of one"
     if PATTERN.search(name):

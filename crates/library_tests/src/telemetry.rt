@@ -5,4 +5,3 @@ mod ledgers;
 mod logs;
 mod reporting;
 mod sockets;
-mod unlisted;

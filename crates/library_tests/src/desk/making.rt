@@ -19,24 +19,11 @@ pub fn request(count: u16) -> Option<Datagram> {
 
 /// Returns such a request with another User-Name.
 pub fn request_of(name: &[u8], count: u16) -> Option<Datagram> {
-    signed(name, count, &[])
-}
-
-/// Returns such a request, which has a Proxy-State with the form of a mark.
-pub fn marked_request_of(name: &[u8], count: u16) -> Option<Datagram> {
-    signed(name, count, &[0x5a; 10])
-}
-
-/// Returns such a request, with a Proxy-State of this value if it is not empty.
-fn signed(name: &[u8], count: u16, state: &[u8]) -> Option<Datagram> {
     let secret = Secret::new(b"nas-secret").ok()?;
     let mut request = Datagram::new();
     request.begin(ACCOUNTING_REQUEST, (count % 256) as u8, [0; 16]);
     request.push(USER_NAME, name).ok()?;
     request.push(ACCT_SESSION_ID, &count.to_be_bytes()).ok()?;
-    if !state.is_empty() {
-        request.push(PROXY_STATE, state).ok()?;
-    }
     let authenticator = request_authenticator(&request.packet(), &secret);
     request.set_authenticator(authenticator);
     Some(request)
