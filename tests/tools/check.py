@@ -233,6 +233,7 @@ tries = 1
 [[realm]]
 name = "NULL"
 """
+SECOND = HOME.replace("h1", "h2").replace("2813", "2814")
 UNCLOSED = WHOLE.replace('"nas-secret"', '"testing123"').replace('"home-secret"', '"""home-secret').replace("2813", "1812")
 SEVERAL_LINES = WHOLE.replace('"h1"\naddress', '"""\nh 1"""\naddress', 1).replace('"nas-secret"', '"testing123"')
 ARRAY = LISTEN + 'client = [\n { address = "10.0.0.1", secret = "a" }\n { address = "0.0.0.0", secret = "testing123" },\n]\n' + HOME + REALM
@@ -267,6 +268,9 @@ def of_faults():
         doubt("client 0 secret", "weak-secret", KNOWN, 2),
         doubt("home 0 tries", "one-try", "one datagram that is lost has it marked down", 6)], (
         "configuration: Missing at top listen")
+    for key in ("default_home", "other_home"):
+        yield f"{key} names none, which may have been meant for the second", f'{key} = "h3"\n' + WHOLE + SECOND, [
+            fault(f"UnknownHome at top {key} at line 1, column 1: no [[home]] has this name")], f"configuration: UnknownHome at top {key}"
     yield "a text that is not closed", UNCLOSED, [
         no_toml(12, 1, "invalid string"), doubt("client 0 secret", "weak-secret", KNOWN),
         doubt("home 0 address", "port", AUTHENTICATION)], TOML

@@ -105,7 +105,7 @@ class Text:
         """Gives a key a stand-in, in place of its line, or none where it need not be there."""
         self.replaced.add((part, index, key))
         self.has_other_names |= (part, key) == ("home", "name")
-        self.is_unsure |= (part, key) in (("home", "name"), ("realm", "home"), ("top", "default_home"))
+        self.is_unsure |= (part, key) in (("home", "name"), ("realm", "home"), ("top", "default_home"), ("top", "other_home"))
         self.count += 1
         if key == "home":
             self.lines[at][1] = f'home = "{self.some_home()}"'
