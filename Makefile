@@ -167,10 +167,11 @@ STATEDIR ?= /var/lib
 DESTDIR ?=
 
 # What is made of the sources of packaging/: the folders, and for the unit the configuration's name.
-FOLDERS = -e 's,@sbindir@,$(SBINDIR),g' -e 's,@libexecdir@,$(LIBEXECDIR),g' -e 's,@sysconfdir@,$(SYSCONFDIR),g' \
+FOLDERS = -e 's,@bindir@,$(BINDIR),g' -e 's,@sbindir@,$(SBINDIR),g' -e 's,@libexecdir@,$(LIBEXECDIR),g' -e 's,@sysconfdir@,$(SYSCONFDIR),g' \
 	-e 's,@rundir@,$(RUNDIR),g' -e 's,@statedir@,$(STATEDIR),g' -e 's,@version@,$(VERSION),g'
 ONE = -e 's,@of@,,' -e 's,@config@,rad_proxy,g' -e 's,@runtime@,rad_proxy,'
-UNITS = rad_proxy.service rad_proxy@.service rad_proxy-metrics.socket rad_proxy-metrics.service
+HEADS = rad_proxy-heads.service rad_proxy-heads.timer rad_proxy-heads.path
+UNITS = rad_proxy.service rad_proxy@.service rad_proxy-metrics.socket rad_proxy-metrics.service $(HEADS)
 MANY = -e 's,@of@, %i,' -e 's,@config@,%i,g' -e 's,@runtime@,rad_proxy-%i,'
 
 # The tools, which are Python programs with modules beside them; and the modules of rad_proxyctl, which root runs: they are installed
@@ -211,6 +212,7 @@ install-proxy:
 	sed $(FOLDERS) $(MANY) packaging/rad_proxy.service.in > $(DESTDIR)$(UNITDIR)/rad_proxy@.service
 	sed $(FOLDERS) packaging/rad_proxy-metrics.socket.in > $(DESTDIR)$(UNITDIR)/rad_proxy-metrics.socket
 	sed $(FOLDERS) packaging/rad_proxy-metrics.service.in > $(DESTDIR)$(UNITDIR)/rad_proxy-metrics.service
+	for unit in $(HEADS); do sed $(FOLDERS) packaging/$$unit.in > $(DESTDIR)$(UNITDIR)/$$unit || exit 1; done
 	cd $(DESTDIR)$(UNITDIR) && chmod 644 $(UNITS)
 	install -m 644 packaging/sysusers.conf $(DESTDIR)$(SYSUSERSDIR)/rad_proxy.conf
 	install -m 644 man/man8/rad_proxy.8 man/man8/rad_proxyctl.8 $(DESTDIR)$(MANDIR)/man8

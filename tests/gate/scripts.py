@@ -90,6 +90,8 @@ SCRIPTS = [
     Script("tools/resend"),
     Script("tools/ledger"),
     Script("ledger/rows", AUDITOR),
+    Script("ledger/asked"),
+    Script("ledger/heads"),
     Script("tools/convert"),
     Script("timing/start_and_unread_output", is_alone=True),
     Script("timing/end_with_requests_left", is_alone=True),

@@ -99,9 +99,9 @@ SPOILERS = [
     (lambda chance, line: turned(chance, line, "sent"), {"NoPacket", "WrongSent"}),
     (lambda chance, line: turned(chance, line, "reply"), {"NoPacket", "WrongReply"}),
     (lambda chance, line: turned(chance, line, "response"), {"NoPacket", "WrongResponse"}),
-    (lambda chance, line: turned(chance, line, "authenticator"), {"WrongResponse"}),
+    (lambda chance, line: turned(chance, line, "authenticator"), {"WrongRequest"}),
     (lambda chance, line: dumped({**line, "record": line["record"] + chance.randrange(1, 2**40)}), {"WrongSent"}),
-    (lambda chance, line: dumped({**line, "identifier": (line["identifier"] + chance.randrange(1, 256)) % 256}), {"WrongResponse"}),
+    (lambda chance, line: dumped({**line, "identifier": (line["identifier"] + chance.randrange(1, 256)) % 256}), {"WrongRequest"}),
     (lambda chance, line: dumped({**line, "lane": chance.randrange(1, 65536)}), {"WrongSent"}),
     (lambda chance, line: dumped({**line, "run": f"{chance.randrange(2**63):016x}"}), {"UnknownLane"}),
     (lambda chance, line: dumped({**line, "serial": 0}), {"SerialNotAbove"}),
@@ -125,7 +125,7 @@ def spoiled(chance, count):
             lines.append((spoil(chance, right), reasons))
             count -= 1
         lines.append((dumped(right), None))
-    return [*lines, (dumped(run.end()), None)], run.lanes[0].serial
+    return [*lines, (dumped(run.end_of_all()), None)], run.lanes[0].serial
 
 
 def read(program, folder, content):
@@ -142,7 +142,7 @@ def of_spoiled(program, folder, count, seed):
     lines, entries = spoiled(random.Random(seed), count)
     printed, err, status, _ = read(program, folder, "".join(f"{line}\n" for line, _ in lines))
     told = {}
-    for line in printed[:-1]:
+    for line in printed[:-3]:
         found = re.fullmatch(r"ledger:(\d+): (\w+)", line)
         if found is None or int(found[1]) in told:
             yield f"printed {line!r}"
@@ -152,9 +152,10 @@ def of_spoiled(program, folder, count, seed):
         reason = told.get(number)
         if (reason is None) != (reasons is None) or (reasons and reason not in reasons):
             yield f"line {number}: {reason}, and not of {reasons}: {line[:200]}"
-    last = f"run a0b1c2d3e4f50617 lane 0 h1 from 0 entries {entries} not judged 0 part"
-    if printed[-1:] != [last] or err or status != 5:
-        yield f"{printed[-1:]} {err!r} {status}, and not {last}"
+    name = "run a0b1c2d3e4f50617 lane 0 h1"
+    last = [f"{name} from 0 entries {entries} not judged 0 part", f"{name} part: no-sum", f"{name} accepted {entries} answered {entries} left 0"]
+    if printed[-3:] != last or err or status != 5:
+        yield f"{printed[-3:]} {err!r} {status}, and not {last}"
 
 
 def of_octets(program, folder, seed):
@@ -184,7 +185,7 @@ def of_memory(program, folder):
     """More entries than fit the memory that the program has, a line that is as long as all of it, and one without an end."""
     run = Run(1, [Lane(0, "h1", HOME)])
     lines = [run.begin(), *(run.entry(client=("192.0.2.10", NAS), more=bytes([26, 122]) + bytes(120)) for _ in range(ENTRIES))]
-    *lines, end = chained([*lines, run.end()])
+    *lines, end = chained([*lines, run.end_of_all()])
     (folder / "config.toml").write_text(CONFIG)
     (folder / "a").write_text(text(lines))
     with open(folder / "b", "wb") as long:
@@ -194,20 +195,22 @@ def of_memory(program, folder):
         long.write(b"?")
     limit = lambda: resource.setrlimit(resource.RLIMIT_AS, (MEMORY, MEMORY))
     ran = subprocess.run([program, "config.toml", "a", "b"], cwd=folder, capture_output=True, encoding="utf-8", timeout=SECONDS, preexec_fn=limit)
-    wanted = ["b:1: NotEntry", "b:3: torn", f"run {1:016x} lane 0 h1 from 0 entries {ENTRIES} not judged 0 whole"]
+    name = f"run {1:016x} lane 0 h1"
+    wanted = ["b:1: NotEntry", "b:3: torn", f"{name} from 0 entries {ENTRIES} not judged 0 whole", f"{name} accepted {ENTRIES} answered {ENTRIES} left 0"]
     if (folder / "a").stat().st_size <= MEMORY or (ran.stdout.splitlines(), ran.stderr, ran.returncode) != (wanted, "", 5):
         yield f"within {MEMORY} octets of memory: {ran.stdout[-200:]!r} {ran.stderr!r} {ran.returncode}"
 
 
 def of_runs(program, folder):
-    """Many runs, each with a lane of its own that is told once, in the order in which they came; the lines of all come twice."""
+    """Many runs, each with a lane of its own that is told once, with why it is a part, in the order in which they came; the lines of all come
+    twice."""
     names = [run * 0x9E3779B97F4A7C15 % 2**64 for run in range(1, RUNS + 1)]
     shape = dumped(Run(0, [Lane(0, "h1", HOME)]).begin()).replace(f"{0:016x}", "{}", 1)
     front, _, back = shape.partition("{}")
     lines = [f"{front}{name:016x}{back}\n" for name in names]
     printed, err, _, took = read(program, folder, "".join([*lines, *lines]))
     print(f"{RUNS} runs in {took:.2f} s of processor time")
-    if [line.split()[1] for line in printed] != [f"{name:016x}" for name in names] or err or took > MOST_SECONDS:
+    if [line.split()[1] for line in printed] != [f"{name:016x}" for name in names for _ in range(2)] or err or took > MOST_SECONDS:
         yield f"{len(printed)} lanes of {RUNS} runs, {err!r}, in {took:.2f} s"
 
 
@@ -229,7 +232,7 @@ def of_places(program, folder):
 
 def of_speed(program, folder):
     run = Run(1, [Lane(0, "h1", HOME)])
-    lines = [run.begin(), *(run.entry(client=("192.0.2.10", NAS), more=bytes([26, 122]) + bytes(120)) for _ in range(ENTRIES)), run.end()]
+    lines = [run.begin(), *(run.entry(client=("192.0.2.10", NAS), more=bytes([26, 122]) + bytes(120)) for _ in range(ENTRIES)), run.end_of_all()]
     printed, err, status, took = read(program, folder, text(chained(lines)))
     a_second = ENTRIES / max(took, 0.001)
     print(f"{ENTRIES} entries in {took:.2f} s of processor time: {a_second:.0f} a second")

@@ -11,7 +11,7 @@ import tempfile
 
 from tests.lib import TOP, audit_model, ledgers, text
 from tests.lib.ledger.chained_cases import all_cases
-from tests.lib.ledger.cases import NAME, config, counted, lines_of, one
+from tests.lib.ledger.cases import NAME, config, lines_of, one
 
 SECONDS = 60
 
@@ -92,7 +92,8 @@ def shown(program):
         with tempfile.TemporaryDirectory() as made:
             yield from ends(program, pathlib.Path(made))
     example = audited(program, ["one-home.toml", "one-home.jsonl"], TOP / "examples")
-    wanted = counted(0, "billing", 0, 4, "whole", run=0x0123456789ABCDEF) + "\n", "", 0
+    name = f"run {0x0123456789ABCDEF:016x} lane 0 billing"
+    wanted = f"{name} from 0 entries 4 not judged 0 whole\n{name} accepted 4 answered 4 left 0\n", "", 0
     yield "the example", None if example == wanted else f"{example} and not {wanted}"
     yield "the example is as it is made", None if ledgers.EXAMPLE.read_text("utf-8") == ledgers.example() else "it is not"
 

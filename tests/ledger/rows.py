@@ -115,7 +115,7 @@ def counter(kind, value):
 def a_run(*entries, lanes=None):
     """The lines of a run, of entries as the words of `Run.entry`."""
     run = Run(cases.NAME, lanes or [Lane(0, "h1", cases.HOME)])
-    return [run.begin(), *(run.entry(**words) for words in entries), run.end()]
+    return [run.begin(), *(run.entry(**words) for words in entries), run.end_of_all()]
 
 
 def the_example(program, folder):
@@ -127,7 +127,7 @@ def the_example(program, folder):
         ["7", "billing", "example.org", "4f2a", "bob@example.org", "3", "-", "-", "-", "answered"],
         ["14", "billing", "example.org", "4f2a", "bob@example.org", "2", "-", "-", "-", "answered"],
         ["21", "billing", "-", "%ff%00", "bob", "1", "-", "-", "-", "answered"]])
-    hope("lanes", lanes, ["run 0123456789abcdef lane 0 billing from 0 entries 4 not judged 0 whole"])
+    hope("lanes", lanes, [f"run 0123456789abcdef lane 0 billing {its}" for its in ("from 0 entries 4 not judged 0 whole", "accepted 4 answered 4 left 0")])
     hope("status", status, 0)
 
 
@@ -182,11 +182,11 @@ def twice(program, folder):
 
 def what_the_line_says(program, folder):
     """Lanes, runs, serials, clients and ports, and a file whose name is no word; the response has the Identifier."""
-    lanes = [Lane(0x1234, "h1", cases.HOME, 2**63 - 3, 2**64 - 3), Lane(65535, "h2", cases.OTHER)]
+    lanes = [Lane(0x1234, "h1", cases.HOME, 2**63 - 3, 2**63 - 3), Lane(65535, "h2", cases.OTHER)]
     lines = a_run({}, {"place": 1}, {"place": 1}, {}, lanes=lanes)
     lines[1]["port"], lines[2]["port"] = 65535, 0
     other = Run(2**64 - 1, [Lane(0, "-", b"x"), Lane(1, "h\t1\n\\%", b"x")])
-    strange = [other.begin(), other.entry(0), other.entry(1), other.end()]
+    strange = [other.begin(), other.entry(0), other.entry(1), other.end_of_all()]
     strange[1]["identifier"], strange[1]["client"] = 99, "255.255.255.255"
     compare(program, folder, {"a\tb\nc\\d%": lines, "-": strange}, 7)
 
@@ -207,7 +207,7 @@ def what_was_left(program, folder):
     """Requests that were left, with their state and no serial, with words of every kind; none of one that is wrong."""
     compare(program, folder, {"ledger": left_cases.some_left()})
     run = Run(cases.NAME, [Lane(7, "h1", cases.HOME)])
-    lines = [run.begin(), *(run.left(state=state, user=value, session=value) for value in VALUES if value for state in left_cases.STATES), run.end()]
+    lines = [run.begin(), *(run.left(state=state, user=value, session=value) for value in VALUES if value for state in left_cases.STATES), run.end_of_all()]
     compare(program, folder, {"ledger": lines})
     for files, _, status in left_cases.LEFT_REASONS.values():
         rows, told_lines, ended = told(program, folder, sealed(files))

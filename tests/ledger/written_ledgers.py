@@ -25,6 +25,8 @@ NAME = re.compile("([0-9]{4}-[0-9]{2}-[0-9]{2})-([0-9a-f]{16})-([0-9]{6})[.]json
 BOUND, ROOM = 64 * 2**20, 4 * 2**20
 # How many entries may wait, however few octets they have, and how many more are asked for.
 PLACES, BEYOND = 180_000, 5000
+# How long writing may take on a busy machine, in seconds.
+WRITES = 120
 
 
 def writes_what_was_acknowledged(trial):
@@ -284,7 +286,10 @@ def a_long_ledger_is_several_files(trial):
     more = b"".join(attribute(CLASS, bytes(250)) for _ in range(14))
     while len(trial.files()) < 2:
         trial.ask(500, more)
+        until("few wait", lambda: trial.number("ledger_waiting") < 1000, WRITES)
+    until("none waits", lambda: trial.number("ledger_waiting") == 0, WRITES)
     trial.ends()
+    hope("dropped", trial.number("ledger_dropped_total"), 0)
     sizes = [file.stat().st_size for file in trial.files()]
     hope("sizes", (max(sizes) <= 2**28, sizes[0] > 2**28 - 400_000), (True, True))
     serials = [entry["serial"] for entry in trial.entries()]

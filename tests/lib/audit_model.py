@@ -194,6 +194,37 @@ def last_proxy_state(found):
     return places[-1] if places else None
 
 
+def is_request(head, sent, mark, client):
+    """Whether what was sent has the attributes of the request of this Identifier and Authenticator, and the mark behind them."""
+    *its, last = attributes(sent) or [None]
+    identifier, authenticator = head
+    asked = bytes([REQUEST]) + identifier + (20 + len(b"".join(its))).to_bytes(2, "big") + authenticator + b"".join(its)
+    return last == mark and is_right(asked, bytes(16), client)
+
+
+def is_reply(reply, sent, mark, home):
+    """Whether a reply is right for what was sent, and returns its mark."""
+    found = attributes(reply)
+    at = last_proxy_state(found)
+    is_plain = not any(attribute[0] == MESSAGE_AUTHENTICATOR for attribute in found)
+    is_its = reply[0] == RESPONSE and reply[1] == sent[1] and is_right(reply, sent[4:20], home)
+    return is_its and is_plain and at is not None and found[at] == mark
+
+
+def without_last_state(reply):
+    """The attributes of a reply without its last Proxy-State."""
+    found = attributes(reply)
+    at = last_proxy_state(found)
+    return b"".join(found[:at] + found[at + 1 :])
+
+
+def is_response(head, response, others, client):
+    """Whether a response is right for the request of this Identifier and Authenticator, and has these attributes where they are known."""
+    identifier, authenticator = head
+    is_its = response[:2] == bytes([RESPONSE]) + identifier and others in (None, response[20:])
+    return is_its and is_right(response, authenticator, client)
+
+
 def value_of(packet, kind):
     """The Value of the first attribute of a Type."""
     return next((attribute[2:] for attribute in attributes(packet) if attribute[0] == kind), None)
@@ -268,7 +299,7 @@ class Audit:
 
     def __init__(self, config, asked=(), sums=()):
         self.asked, self.found, self.files, self.before, self.newest = asked, set(), {}, {}, {}
-        self.chains, self.sums, self.kept, self.last = {}, sums, set(), None
+        self.chains, self.sums, self.kept, self.last, self.ended = {}, sums, set(), None, set()
         self.homes = {home["name"]: home["secret"].encode() for home in config["home"]}
         self.clients = {client["address"]: client["secret"].encode() for client in config["client"]}
         self.runs, self.printed = {}, []
@@ -290,22 +321,16 @@ class Audit:
         if not all(map(is_packet, (sent, reply, response))):
             return "NoPacket"
         home, client = self.homes.get(entry["home"]), self.clients.get(entry["client"])
-        if home is None:
-            return None
         mark = bytes([PROXY_STATE, 12]) + entry["lane"].to_bytes(2, "big") + entry["record"].to_bytes(8, "big")
-        if sent[0] != REQUEST or not is_right(sent, bytes(16), home) or attributes(sent)[-1:] != [mark]:
+        head = bytes([entry["identifier"]]), bytes.fromhex(entry["authenticator"])
+        if home is not None and (sent[0] != REQUEST or not is_right(sent, bytes(16), home) or attributes(sent)[-1:] != [mark]):
             return "WrongSent"
-        found = attributes(reply)
-        at = last_proxy_state(found)
-        is_reply = reply[0] == RESPONSE and reply[1] == sent[1] and is_right(reply, sent[4:20], home)
-        is_plain = not any(attribute[0] == MESSAGE_AUTHENTICATOR for attribute in found)
-        if not (is_reply and is_plain and at is not None and found[at] == mark):
+        if client is not None and not is_request(head, sent, mark, client):
+            return "WrongRequest"
+        if home is not None and not is_reply(reply, sent, mark, home):
             return "WrongReply"
-        if client is None:
-            return None
-        others = b"".join(found[:at] + found[at + 1 :])
-        is_its = response[0] == RESPONSE and response[1] == entry["identifier"] and response[20:] == others
-        return None if is_its and is_right(response, bytes.fromhex(entry["authenticator"]), client) else "WrongResponse"
+        others = None if home is None else without_last_state(reply)
+        return None if client is None or is_response(head, response, others, client) else "WrongResponse"
 
     def take_entry(self, place, entry):
         run = entry["run"].lower()
@@ -355,6 +380,7 @@ class Audit:
 
     def take_end(self, place, end):
         run = end["run"].lower()
+        self.ended |= {run} & self.runs.keys()
         for count in end["lanes"]:
             lane = self.lane(run, count["lane"])
             if lane is None:
@@ -451,7 +477,8 @@ class Audit:
         gap = lane["gap"]
         if gap is None and lane["end"] is not None and lane["next"] < lane["end"]:
             gap = lane["next"], lane["end"] - 1
-        late, unknown = bool(lane["serial"] or self.files[run][0]), bool(lane["not judged"] or self.chains[run].is_bare)
+        late = bool(lane["serial"] or self.files[run][0])
+        unknown = {"no-sum": self.chains[run].is_bare, "no-counts": run in self.ended and not lane["told"], "not-judged": lane["not judged"]}
         if is_contradicted(lane):
             verdict = "contradicted"
         elif gap:
@@ -459,12 +486,15 @@ class Audit:
         elif lane["end"] is None:
             verdict = "open"
         else:
-            verdict = "unaccounted" if not is_settled(lane) else "part" if late or unknown else "whole"
+            verdict = "unaccounted" if not is_settled(lane) else "part" if late or any(unknown.values()) else "whole"
         self.found.add({"whole": "whole", "part": "whole", "unaccounted": "gap"}.get(verdict, verdict.split()[0]))
-        if late and not {"--from", "--partial"} & set(self.asked) or unknown and "--partial" not in self.asked:
+        if late and not {"--from", "--partial"} & set(self.asked) or any(unknown.values()) and "--partial" not in self.asked:
             self.found.add("part")
         counts = f"from {lane['serial']} entries {lane['entries']} not judged {lane['not judged']}"
         self.printed.append(f"{named(run, lane)} {counts} {verdict}")
+        reasons = [reason for reason, is_so in {"late": late, **unknown}.items() if is_so]
+        if reasons:
+            self.printed.append(" ".join([f"{named(run, lane)} part:", *reasons]))
         if lane["told"]:
             self.printed.append(f"{named(run, lane)} accepted {lane['told'][0]} answered {lane['entries']} left {lane['left']}")
         if lane["numbers"].exact_from:

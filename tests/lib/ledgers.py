@@ -166,4 +166,4 @@ def example():
     lines = [run.begin()]
     lines += [run.entry(client=CLIENT, session=b"4f2a", status=status) for status in (1, 3, 2)]
     lines += [run.entry(client=CLIENT, session=b"\xff\x00", user=b"bob", more=attribute(packets.PROXY_STATE, b"abc"))]
-    return text(chained([*lines, run.end()]))
+    return text(chained([*lines, run.end_of_all()]))

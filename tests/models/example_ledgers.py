@@ -18,11 +18,11 @@ def spoiled():
     """Three runs: of one an entry is wrong and another one missing, which its end line's sum shows too; one is whole, with a line that was
     cut short and written again; and one goes on, with a line that is left out, in a file whose last line has no line end yet."""
     run = Run(0x1000000000000001, [Lane(0, "billing", ledgers.SECRET)])
-    lines = chained([run.begin(), *(run.entry(client=ledgers.CLIENT) for _ in range(6)), run.end()])
+    lines = chained([run.begin(), *(run.entry(client=ledgers.CLIENT) for _ in range(6)), run.end_of_all()])
     lines[2]["response"] = lines[1]["response"]
     del lines[4]
     run = Run(0x1000000000000002, [Lane(0, "billing", ledgers.SECRET), Lane(1, "elsewhere", b"a secret that is not there")])
-    second = chained([run.begin(), run.entry(client=ledgers.CLIENT), run.entry(1, client=ledgers.CLIENT), run.end()])
+    second = chained([run.begin(), run.entry(client=ledgers.CLIENT), run.entry(1, client=ledgers.CLIENT), run.end_of_all()])
     second.insert(1, json.dumps(second[1], separators=(",", ":"))[:200])
     run = Run(0x1000000000000003, [Lane(0, "billing", ledgers.SECRET)])
     third = chained([run.begin(), *(run.entry(client=ledgers.CLIENT) for _ in range(3))])

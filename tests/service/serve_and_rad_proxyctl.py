@@ -1014,7 +1014,8 @@ def a_purge_leaves_no_link(service):
     """postrm takes away all that `systemctl enable` made of the package's units, wherever, and nothing else."""
     links = service.room / "etc/systemd/system"
     made = ["multi-user.target.wants/rad_proxy.service", "multi-user.target.wants/rad_proxy@one.service",
-            "other.target.wants/rad_proxy@two.service", "sockets.target.wants/rad_proxy-metrics.socket"]
+            "other.target.wants/rad_proxy@two.service", "sockets.target.wants/rad_proxy-metrics.socket",
+            "timers.target.wants/rad_proxy-heads.timer", "paths.target.wants/rad_proxy-heads.path"]
     others = ["multi-user.target.wants/other.service", "sockets.target.wants/rad_proxy-mine.socket"]
     for name in made + others:
         (links / name).parent.mkdir(parents=True, exist_ok=True)
@@ -1024,7 +1025,8 @@ def a_purge_leaves_no_link(service):
     subprocess.run(["sh", "-s", "purge"], input=script, text=True, check=True)
     hope("links", sorted(str(path.relative_to(links)) for path in links.glob("*/*")), others)
     units = {path.name for path in (service.room / "usr/lib/systemd/system").iterdir() if "[Install]" in path.read_text()}
-    hope("units", units, {"rad_proxy.service", "rad_proxy@.service", "rad_proxy-metrics.socket"})
+    hope("units", units, {"rad_proxy.service", "rad_proxy@.service", "rad_proxy-metrics.socket", "rad_proxy-heads.timer",
+                           "rad_proxy-heads.path"})
 
 
 def node_exporter_reads_the_counters(service):

@@ -155,7 +155,26 @@ def what_the_system_drops_is_told(program, folder):
         need(found[f"rad_proxy_socket_buffer_bytes{clients}"] == min(most, 1 << 20), found[f"rad_proxy_socket_buffer_bytes{clients}"])
 
 
-TESTS = [numbers_of_a_home_fit_together, ages_grow_until_an_answer, what_became_of_a_home_is_told, a_client_is_counted, limits_are_told,
+def the_last_text_has_all_counts(program, folder):
+    """What came between the report before the last one and the end is counted in the text of the end, for each lane."""
+    with Stage(program, folder, "window = 2\nfirst_wait = 60000\n", count=3) as stage:
+        stage.next_report()
+        for lane in range(3):
+            for _ in range(lane + 1):
+                stage.round_trip(lane)
+            for _ in range(3 * (lane == 1)):
+                stage.nas.ask("h1")
+        for _ in range(2):
+            stage.came(1)
+        printed, status = stage.ends()[1:]
+        need((printed, status) == ("end: queued 1 outstanding 2 untaken 0", 3), printed, status)
+        found = stage.counters()
+        for lane, counts in enumerate([(1, 0, 0, 1), (5, 1, 2, 2), (3, 0, 0, 3)]):
+            told = tuple(found[f'rad_proxy_{name}{{lane="{lane}",home="h{lane}"}}'] for name in OF_ONE_HOLD)
+            need(told == counts, "lane", lane, told, "and not", counts)
+
+
+TESTS = [numbers_of_a_home_fit_together, the_last_text_has_all_counts, ages_grow_until_an_answer, what_became_of_a_home_is_told, a_client_is_counted, limits_are_told,
          what_the_system_drops_is_told, latencies_are_counted]
 
 

@@ -12,22 +12,16 @@ import re
 import select
 import sqlite3
 import subprocess
-import sys
 import time
 from dataclasses import dataclass
 
 from tests.lib import (ACCT_SESSION_ID, ACCT_STATUS_TYPE, CLASS, HERE, SECRET, TOP, Home, LeftOut, Proxy, Server, answer, attribute, bound,
                        configured, environment, free_ports, hope, request, started, try_in_folders, until, user_name)
 from tests.lib.packets import NAS_IP_ADDRESS
-from tests.lib.tools.running import TOOLS, want
-
-sys.path.insert(0, str(TOOLS))
-sys.dont_write_bytecode = True
-
-from ledger.keeping import schema  # noqa: E402
+from tests.lib.tools.running import want
 
 NAS_PORT, ACCT_DELAY_TIME, INPUT_OCTETS = 5, 41, 42
-BEGIN, STOP, INTERIM, ON = 1, 2, 3, 7
+BEGIN, STOP, ON = 1, 2, 7
 DAY = 86400
 PACKAGED = "/etc/freeradius/3.0/mods-config/sql/main/sqlite/queries.conf"
 
@@ -208,25 +202,6 @@ def radsecproxy_keeps_a_proxy_that_it_asks_for_its_status(room):
     hope("what the second servers get", [len(it.requests()) for it in seconds], [1, 0])
 
 
-def what_came_again_is_found_within_an_hour(_):
-    """The SQL of the page tells records that came again, and no session whose number recurs on another day, to another user or NAS."""
-    text = re.search(r"sqlite3 ~/ledger.db '(SELECT .*?)'\n", page("ledger.md"), re.DOTALL)[1]
-    columns = "time, client, session, user, status, seconds, run, lane, record"
-    with contextlib.closing(sqlite3.connect(":memory:")) as made:
-        made.execute(schema())
-        told = [("01", 1, "S", "bob", BEGIN, None), ("02", 1, "S", "bob", INTERIM, 60), ("03", 1, "S", "bob", INTERIM, 120),
-                ("04", 1, "S", "bob", STOP, 130), ("05", 1, "S", "bob", STOP, 130), ("06", 2, "S", "bob", STOP, 130),
-                ("07", 1, "S", "eve", STOP, 130), ("08", 1, None, None, ON, None), ("09", 1, None, None, ON, None)]
-        again = [("30", 1, "S", "bob", INTERIM, 60), ("31", 1, "T", "bob", STOP, 9)]
-        rows = [(f"2026-01-{day}T00:{minute}:00.000Z", f"192.0.2.{client}", *more)
-                for day, some in (("30", told), ("31", told[:1] + told[3:4]), ("30", again)) for minute, client, *more in some]
-        made.executemany(f"INSERT INTO entries ({columns}) VALUES (?, ?, ?, ?, ?, ?, 'run', 0, ?)",
-                         [(*row, at) for at, row in enumerate(rows)])
-        found = made.execute(text).fetchall()
-    at = "2026-01-30T00:{}:00.000Z".format
-    hope("what came again", sorted(found), [("192.0.2.1", "S", STOP, at("04"), at("05")), ("192.0.2.1", "S", INTERIM, at("02"), at("30"))])
-
-
 def old_files_of_a_ledger_are_removed(room):
     """The line of the page for systemd-tmpfiles removes what is older than it says, by the time of the last write alone."""
     want("systemd-tmpfiles")
@@ -243,8 +218,7 @@ def old_files_of_a_ledger_are_removed(room):
 
 
 CASES = [a_session_is_one_row_by_its_unique_id, a_sink_takes_what_has_no_realm, freeradius_keeps_a_proxy_that_it_asks_for_its_status,
-         radsecproxy_keeps_a_proxy_that_it_asks_for_its_status, what_came_again_is_found_within_an_hour,
-         old_files_of_a_ledger_are_removed]
+         radsecproxy_keeps_a_proxy_that_it_asks_for_its_status, old_files_of_a_ledger_are_removed]
 
 
 def in_room(case):

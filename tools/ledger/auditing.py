@@ -14,13 +14,25 @@ from dataclasses import dataclass
 
 from trial.faults import CONFIGURATION, FAILED, USAGE, Fault, shown_path
 
+from .evidence import delays_of
 from .rows import row_of, visible
-from .sources import STANDARD_INPUT, Source, files_of
+from .sources import STANDARD_INPUT, UNREAD, Source, files_of
 
 AT_ONCE, APART, MOST_LINES = 1 << 20, 0.5, 20
+# What rad_audit ends with where a line or a sum is wrong, and where a lane is contradicted. No file that is not read can be why.
+WRONG, CONTRADICTED = 5, 9
+# The status of a comparison that found a difference, and of a ledger of which a head is missing or refused.
+DIFFERS, HEADS_REFUSED = 11, 13
 # The name by which rad_audit gets the configuration.
 CONFIG = "configuration"
 PLACE = re.compile(r"(?<![^ ])(\d+)/[A-Za-z0-9._-]+(?=:\d+: |$)")
+# What rad_audit says of a line that is wrong, of a lane, and of what is missing of a ledger.
+WRONG_LINE = re.compile(r"(\d+)/[A-Za-z0-9._-]+:(\d+): ([A-Z]\w+)")
+LANE = re.compile(r"(?:.*:\d+: )?run (?P<run>[0-9a-f]{16}) lane (?P<lane>\d+) "
+                  r"(?:.* from (?P<from>\d+) entries (?P<entries>\d+) not judged (?P<unjudged>\d+) (?P<verdict>.*))?")
+IS_PART = re.compile(r"run \S+ lane \d+ .* part:.*")
+IS_WRONG, FILES_MISSING = re.compile(r".*: [A-Z]\w+"), re.compile(r".*:\d+: run \S+ files \d+ to \d+ missing")
+BEFORE_MISSING, HIDDEN = re.compile(r"run \S+ before .* missing"), re.compile(r"run \S+ hidden \d+")
 
 
 def program_of(path):
@@ -30,50 +42,129 @@ def program_of(path):
     return os.path.abspath(found)
 
 
-def sources_of(paths):
-    """The files of a ledger that these paths name: a folder stands for its files."""
-    found = [it for path in paths for it in (files_of(path) if path != STANDARD_INPUT and os.path.isdir(path) else [path])]
-    if found.count(STANDARD_INPUT) > 1:
-        raise Fault("standard input can be read once", USAGE)
-    return [Source(it) for it in found]
+class Sources(list):
+    """The files of a ledger, in order. `unread` has a line for each file of a folder that is none of them. A folder stands for all runs."""
+
+    def __init__(self, paths):
+        super().__init__()
+        self.unread, self.has_folder = [], False
+        for path in paths:
+            if path != STANDARD_INPUT and os.path.isdir(path):
+                files, unread = files_of(path)
+                self.has_folder = True
+                self.unread += unread
+            else:
+                files = [path]
+            self.extend(map(Source, files))
+        if [it.path for it in self].count(STANDARD_INPUT) > 1:
+            raise Fault("standard input can be read once", USAGE)
+
+
+def add_words(parser):
+    """Adds what rad_audit is told to the words of a call."""
+    parser.add_argument("--program")
+    parser.add_argument("--all", action="store_true")
+    parser.add_argument("--sum", action="append", default=[])
+
+
+def words_of(asked, sources):
+    """What rad_audit is told, before the configuration."""
+    is_all = asked.all or sources.has_folder
+    return [*(["--all"] if is_all else []), *(word for it in asked.sum for word in ("--sum", it))]
+
+
+def status_of(lines, is_all):
+    """The status with which rad_audit would end behind these lines, without --from and --partial."""
+    lanes = [it for it in map(LANE.match, lines) if it and it["verdict"]]
+    has = lambda *words: any(it["verdict"].startswith(words) for it in lanes)
+    cases = {WRONG: any(map(IS_WRONG.fullmatch, lines)), CONTRADICTED: has("contradicted"), 8: any(map(FILES_MISSING.fullmatch, lines)),
+             3: has("gap", "unaccounted"), 7: any(map(IS_PART.fullmatch, lines)) or any(map(HIDDEN.fullmatch, lines)),
+             10: not lanes or is_all and any(map(BEFORE_MISSING.fullmatch, lines)), 6: has("open")}
+    return next((status for status, is_so in cases.items() if is_so), 0)
 
 
 @dataclass
 class Verdict:
-    """What rad_audit says of a ledger: its status, and its lines; and what is wrong with a file that it was not given whole. The tool
-    ends with that status, or with another one that is given here."""
+    """What rad_audit says of a ledger: its status, and its lines; what is wrong with a file that it was not given whole; a line for each
+    file that was not read; and whether something else differs."""
 
     status: int
     lines: list
     fault: Fault | None = None
-    other: int | None = None
+    unread: tuple | list = ()
+    differs: bool = False
+    is_refused: bool = False
+    kept: tuple | list = ()
+
+    @property
+    def of_ledger(self):
+        """The status of the ledger and its heads alone."""
+        if self.status in (FAILED, WRONG, CONTRADICTED):
+            return self.status
+        return HEADS_REFUSED if self.is_refused else UNREAD if self.unread else self.status
 
     @property
     def ends_with(self):
-        return self.status if self.other is None else self.other
+        return DIFFERS if self.differs and self.of_ledger == 0 else self.of_ledger
+
+    @property
+    def beside(self):
+        """What stands beside a count of records: how many lines of the ledger are none of them since they are wrong, or were not judged."""
+        wrong = sum(1 for it in self.lines if IS_WRONG.fullmatch(it) and not it.endswith(": WrongSum"))
+        unjudged = sum(int(it["unjudged"]) for it in map(LANE.match, self.lines) if it and it["unjudged"])
+        return f"; lines of the ledger that are wrong {wrong}, not judged {unjudged}" if wrong or unjudged else ""
 
     def told(self):
         """The lines of it, of many the first ones."""
         if self.fault:
             yield str(self.fault)
-        yield "the searched ledger is whole" if self.status == 0 else f"the searched ledger is not whole: status {self.status}"
+        yield "the searched ledger is whole" if self.of_ledger == 0 else f"the searched ledger is not whole: status {self.of_ledger}"
+        yield from first_of(self.unread, "")
+        yield from first_of(self.kept, "")
         of_runs = [it for it in self.lines if it.startswith("run ")]
         yield from first_of([it for it in self.lines if not it.startswith("run ")])
         yield from first_of(of_runs)
 
 
-def first_of(lines):
+@dataclass
+class Beside:
+    """A line that is told beside a table, on standard error."""
+
+    line: str
+    ends_with = 0
+
+    def told(self):
+        yield self.line
+
+
+@dataclass
+class NotRead:
+    """A line for each file that was not read, where no ledger was judged."""
+
+    unread: list
+    status: int = 0
+
+    @property
+    def ends_with(self):
+        return self.status or (UNREAD if self.unread else 0)
+
+    def told(self):
+        return first_of(self.unread, "")
+
+
+def first_of(lines, where=", which rad_audit prints"):
     """The first of many lines, and how many there are more."""
     yield from lines[:MOST_LINES]
     if len(lines) > MOST_LINES:
-        yield f"{len(lines) - MOST_LINES} such lines more, which rad_audit prints"
+        yield f"{len(lines) - MOST_LINES} such lines more{where}"
 
 
 class Audit:
     """An audit of a ledger. It is given the configuration, and each file as the number of it and its name, in a folder of its own."""
 
-    def __init__(self, program, config, sources):
-        self.program, self.config, self.sources = program_of(program), config, sources
+    def __init__(self, asked, config, sources):
+        self.program, self.config, self.sources = program_of(asked.program), config, sources
+        self.words = words_of(asked, sources)
         self.fault, self.found, self.at = None, 0, (0, 0)
         self.shower, self.has_ended = threading.Thread(target=self.show, daemon=True), threading.Event()
 
@@ -84,7 +175,7 @@ class Audit:
         link(self.config, pathlib.Path(self.room, CONFIG))
         paths = [self.put(number, source) for number, source in enumerate(self.sources)]
         with undisturbed() as signals:
-            self.ran = self.begun([self.program, "--rows", CONFIG, *paths], signals)
+            self.ran = self.begun([self.program, "--rows", *self.words, CONFIG, *paths], signals)
             stack.callback(self.stop)
         threading.Thread(target=self.hand_on, daemon=True).start()
         if sys.stderr.isatty():
@@ -156,6 +247,15 @@ class Audit:
                             self.found += 1
                             yield row
 
+    def all_rows(self):
+        """All records."""
+        for octets in self.chunks():
+            yield from map(row_of, octets.split(b"\n"))
+
+    def delays(self, places):
+        """The Acct-Delay-Time of the line at each of these places."""
+        return delays_of(self.sources, places)
+
     def place(self, row):
         """The file of a row, and its line there."""
         return f"{self.file(row)}:{row.line}"
@@ -175,20 +275,21 @@ class Audit:
             line = line[: found.start()] + str(self.sources[int(found[1])]) + line[found.end() :]
         return visible(line)
 
-    def verdict(self):
-        """What rad_audit says, once all rows are read. That it can't judge at all is a fault."""
+    def verdict(self, take=None):
+        """What rad_audit says, once all rows are read, but for the lines that `take` takes. That it can't judge at all is a fault."""
         status = self.ran.wait()
         self.clear()
         self.errors.seek(0)
-        lines = [self.named(it) for it in self.errors.read().decode("utf-8", "replace").splitlines()]
+        given = (it.decode("utf-8", "replace").rstrip("\n") for it in self.errors)
+        lines = [self.named(it) for it in given if not (take and take(it))]
         last = lines[-1] if lines else f"status {status}"
         if status == USAGE:
-            raise Fault(f"{shown_path(self.program)} does not know --rows: {last}")
+            raise Fault(f"{shown_path(self.program)} does not know these words: {last}", USAGE if self.words[-2:-1] == ["--sum"] else FAILED)
         if status in (CONFIGURATION, FAILED):
             raise Fault(last, status)
         if status < 0:
             raise Fault(f"{shown_path(self.program)} was ended by signal {-status}")
-        return Verdict(FAILED if self.fault else status, lines, self.fault)
+        return Verdict(FAILED if self.fault else status, lines, self.fault, self.sources.unread)
 
     def show(self):
         """Tells how far it is, as long as rad_audit runs."""
@@ -223,10 +324,10 @@ class Audit:
 
 
 @contextlib.contextmanager
-def audit_of(program, config, sources):
+def audit_of(asked, config, sources):
     """An audit that runs meanwhile, and has ended behind that."""
     with contextlib.ExitStack() as stack:
-        audit = Audit(program, config, sources)
+        audit = Audit(asked, config, sources)
         audit.start(stack)
         yield audit
 

@@ -62,9 +62,26 @@ class Choice:
         return all((lower(row.realm) if word == "realm" else getattr(row, word)) in forms for word, forms in self.wanted.items())
 
     def is_within(self, row):
-        """Whether the time of a record's line is one that is asked for: from `since` on, and before `until`."""
-        is_since = self.since is None or row.time >= self.since
-        return is_since and (self.until is None or row.time < self.until) and (self.day is None or row.time.startswith(self.day))
+        """Whether the time of a record's line is one that is asked for."""
+        return self.is_at(row.time)
+
+    def is_at(self, time):
+        """Whether a time is one that is asked for: from `since` on, and before `until`."""
+        is_since = self.since is None or time >= self.since
+        return is_since and (self.until is None or time < self.until) and (self.day is None or time.startswith(self.day))
+
+    def fits_detail(self, detail):
+        """Whether a record of a detail file may be one that is asked for. It says nothing of the client; one without a time is of each."""
+        given = {"session": lambda: detail.session, "user": lambda: detail.user, "realm": lambda: lower(detail.realm)}
+        return all(given[word]() in forms for word, forms in self.wanted.items() if word in given)
+
+    def is_of_time(self, detail):
+        return detail.time is None or self.is_at(detail.time)
+
+
+def of_home_and_session(asked):
+    """What is asked for, by the home server and the session alone."""
+    return Choice(argparse.Namespace(**vars(asked) | dict.fromkeys(("user", "client", "realm", "day", "since", "until"))))
 
 
 def lower(text):

@@ -11,6 +11,7 @@ ATTRIBUTE = re.compile(rb"\t([A-Za-z0-9._:-]+) (?:=|\+=|:=) (.*)")
 ESCAPE = re.compile(rb"\\([0-7]{3}|.)", re.DOTALL)
 LETTERS = {b"n": b"\n", b"r": b"\r", b"t": b"\t"}
 PROXY_STATE, STATUS, SESSION, TIMESTAMP = b"Proxy-State", b"Acct-Status-Type", b"Acct-Session-Id", b"Timestamp"
+USER = b"User-Name"
 KINDS = {b"Start": "1", b"Stop": "2", b"Interim-Update": "3", b"Alive": "3", b"Accounting-On": "7", b"Accounting-Off": "8"}
 MOST_LINE, HEAD = 65_536, "%a %b %d %H:%M:%S %Y"
 
@@ -30,7 +31,20 @@ class Detail:
 
     @property
     def session(self):
-        text = self.attributes.get(SESSION)
+        return self.cell_of(SESSION)
+
+    @property
+    def user(self):
+        return self.cell_of(USER)
+
+    @property
+    def realm(self):
+        """What follows the last `@` of the user's name."""
+        _, at, realm = octets_of(self.attributes.get(USER, b"")).rpartition(b"@")
+        return cell(realm) if at else NONE
+
+    def cell_of(self, name):
+        text = self.attributes.get(name)
         return NONE if text is None else cell(octets_of(text))
 
     @property
@@ -49,6 +63,15 @@ class Detail:
             return int(text)
         try:
             return time.mktime(time.strptime(self.head.decode(), HEAD))
+        except (ValueError, OverflowError):
+            return None
+
+
+    @property
+    def time(self):
+        """The same as a line of a ledger has it."""
+        try:
+            return None if self.moment is None else time.strftime("%Y-%m-%dT%H:%M:%S.000Z", time.gmtime(self.moment))
         except (ValueError, OverflowError):
             return None
 

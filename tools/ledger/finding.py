@@ -21,7 +21,7 @@ def kind_of(row):
 
 def state_of(row):
     if row.is_answered:
-        return f"answered at {row.time}, as answer {row.serial} of the lane"
+        return f"answer {row.serial} of the lane, handed over to be sent at {row.time}"
     return f"left {row.state} at {row.time}: {STATES.get(row.state, 'it was not answered')}"
 
 
@@ -30,24 +30,53 @@ def key_of(row):
     return hash((row.client, row.session, row.status))
 
 
-def times(count):
-    return "once" if count == 1 else f"{count} times"
+def came(number, count, first):
+    """How often the same session and status came, and which of them this is. With the same user and volumes as an earlier one it is a
+    repeat of that."""
+    if count == 1:
+        return "once"
+    return f"{count} times, and this is number {number}{f', a repeat of {first}' if first else ''}"
+
+
+class Numbered:
+    """The records that have a session and status in common, the oldest first."""
+
+    def __init__(self, counts):
+        self.counts, self.seen, self.firsts = counts, Counter(), {}
+
+    def number(self, row, place, key):
+        """Which of them a record is, how many there are, and the first one with the same user and volumes, if that is another one."""
+        if self.counts[key] == 1:
+            return 1, 1, None
+        self.seen[key] += 1
+        first = self.firsts.setdefault((key, row.user, *row.volumes), place)
+        return self.seen[key], self.counts[key], None if first == place else first
 
 
 class Found:
-    """The records that were found, in a file; in memory there are the moment, the place and the key of each."""
+    """The records that were found, in a file; in memory there are the moment, the place and the key of each, and where its line is."""
 
     def __init__(self):
         self.file, self.moments, self.places, self.keys = tempfile.TemporaryFile(), array("Q"), array("Q"), array("q")
+        self.files, self.lines, self.told = array("L"), array("Q"), array("Q")
 
-    def add(self, row, place):
+    def marks(self):
+        """The file and the line of each that is told."""
+        return zip(self.files, self.lines)
+
+    def add(self, row, place, is_told):
+        """Takes one in, which is told or only counted."""
         self.places.append(self.file.tell())
+        self.told.append(len(self.files))
+        if is_told:
+            self.files.append(int(row.file.partition("/")[0]))
+            self.lines.append(int(row.line))
         self.moments.append(int("".join(it for it in row.time if it.isdigit())))
         self.keys.append(key_of(row))
         self.file.write("\t".join((*row, place)).encode() + b"\n")
 
     def in_order(self):
-        """Each record, its place and its key, the oldest first; those of one moment as they stand."""
+        """Each record, its place, its key, and its number among those that are told, the oldest first; those of one moment as they stand."""
         order = range(len(self.moments))
         is_sorted = all(self.moments[at - 1] <= self.moments[at] for at in order[1:])
         self.file.seek(0)
@@ -55,17 +84,19 @@ class Found:
             if not is_sorted:
                 self.file.seek(self.places[at])
             *words, place = self.file.readline()[:-1].decode().split("\t")
-            yield Row._make(words), place, self.keys[at]
+            yield Row._make(words), place, self.keys[at], self.told[at]
 
 
-def paragraph(row, place, count):
+def paragraph(row, place, told, delay):
     realm = "" if row.realm == NONE else f", realm {row.realm}"
     yield f"{kind_of(row)} of session {row.session}, user {row.user}{realm}"
     yield f"  came from {row.client} port {row.port} with Identifier {row.identifier}"
     yield f"  record {row.record} of lane {row.lane}, home server {row.home}, run {row.run}"
     yield f"  {state_of(row)}"
+    if delay is not None:
+        yield f"  Acct-Delay-Time {delay}: the access server tried to send it for {delay} second{'' if delay == 1 else 's'}"
     if row.session != NONE:
-        yield f"  this session and status came {times(count)}"
+        yield f"  this session and status came {told}"
     yield f"  octets in {row.input}, octets out {row.output}, seconds {row.seconds}"
     yield f"  evidence: {place}"
     yield ""
@@ -76,10 +107,12 @@ def find(audit, choice):
     found, counts = Found(), Counter()
     for row in audit.rows(choice):
         counts[key_of(row)] += 1
+        found.add(row, audit.place(row), choice.is_within(row))
+    verdict, numbered = audit.verdict(), Numbered(counts)
+    delays = array("q", (-1 if it is None else it for it in audit.delays(found.marks())))
+    for row, place, key, at in found.in_order():
+        number = numbered.number(row, place, key)
         if choice.is_within(row):
-            found.add(row, audit.place(row))
-    verdict = audit.verdict()
-    for row, place, key in found.in_order():
-        yield from map(visible, paragraph(row, place, counts[key]))
-    yield f"{len(found.moments)} record{'' if len(found.moments) == 1 else 's'}"
+            yield from map(visible, paragraph(row, place, came(*number), None if delays[at] < 0 else delays[at]))
+    yield f"{len(delays)} record{'' if len(delays) == 1 else 's'}{verdict.beside}"
     yield verdict

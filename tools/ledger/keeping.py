@@ -8,12 +8,19 @@ from collections import Counter
 
 from trial.faults import Fault, shown_path
 
-from .rows import NONE, Row
+from .auditing import CONTRADICTED, DIFFERS, WRONG, Beside, first_of
+from .rows import NONE, Row, visible
 
 TABLE, MOST_INTEGER = "entries", 2**63 - 1
 NUMBERS = {"line", "lane", "serial", "record", "port", "identifier", "status", "input", "output", "seconds"}
 # Numbers that may have 64 bits: SQLite has 63, and keeps what is greater as text.
 LONG = {"record", "input", "output"}
+# The records that a database has with other words than are given; where a record stands is none of them.
+OTHERS = f"""
+SELECT {TABLE}.run, {TABLE}.lane, {TABLE}.record FROM given JOIN {TABLE}
+ON {TABLE}.run = given.run AND {TABLE}.lane = given.lane AND {TABLE}.record = given.record
+WHERE {" OR ".join(f"{TABLE}.{it} IS NOT given.{it}" for it in Row._fields[2:])} ORDER BY 1, 2, 3
+"""
 # How long another program may keep the database locked.
 SECONDS_LOCKED = 3
 # With what a text begins that a spreadsheet takes for a formula.
@@ -41,12 +48,17 @@ def csv_lines(audit, choice, is_raw):
             head = ""
     verdict = audit.verdict()
     yield from filter(None, (head,))
+    if verdict.beside:
+        yield Beside(verdict.beside.removeprefix("; "))
     yield verdict
 
 
+def columns():
+    return ", ".join(f"{it} INTEGER" if it in NUMBERS - LONG else it for it in Row._fields)
+
+
 def schema():
-    columns = ", ".join(f"{it} INTEGER" if it in NUMBERS - LONG else it for it in Row._fields)
-    return f"CREATE TABLE IF NOT EXISTS {TABLE} ({columns}, UNIQUE (run, lane, record))"
+    return f"CREATE TABLE IF NOT EXISTS {TABLE} ({columns()}, UNIQUE (run, lane, record))"
 
 
 def value(name, text):
@@ -101,15 +113,27 @@ def database(path):
 
 
 def keep(audit, choice, path):
-    """Puts records into a database. One that is there already stays as it is."""
+    """Puts records into a database. One that is there already stays as it is; one that is there with other words becomes what the ledger
+    says, unless the auditor finds something wrong in that."""
     given = Counter()
     with database(path) as made:
         count = made.execute(f"SELECT count(*) FROM {TABLE}").fetchone()[0]
+        made.execute(f"CREATE TEMP TABLE given ({columns()})")
         places = ", ".join("?" * len(Row._fields))
-        made.executemany(f"INSERT OR IGNORE INTO {TABLE} VALUES ({places})", values(audit, choice, given))
+        made.executemany(f"INSERT INTO given VALUES ({places})", values(audit, choice, given))
         verdict = audit.verdict()
         if verdict.fault:
             raise verdict.fault
+        others = made.execute(OTHERS).fetchall()
+        is_right = verdict.status not in (WRONG, CONTRADICTED)
+        if is_right:
+            made.executemany(f"DELETE FROM {TABLE} WHERE run = ? AND lane = ? AND record = ?", others)
+        made.execute(f"INSERT OR IGNORE INTO {TABLE} SELECT * FROM given")
         added = made.execute(f"SELECT count(*) FROM {TABLE}").fetchone()[0] - count
-    yield f"{added} records were added, {given['records'] - added} were there already"
+        made.execute("DROP TABLE given")
+    kind = "replaced" if is_right else "left, since the ledger is not right"
+    told = f", {len(others)} were there otherwise and are {kind}" if others else ""
+    yield f"{added} records were added, {given['records'] - added - len(others)} were there already{told}{verdict.beside}"
+    yield from map(visible, first_of([f"there otherwise: run {run} lane {lane} record {record}" for run, lane, record in others], ""))
+    verdict.differs = bool(others)
     yield verdict

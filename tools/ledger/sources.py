@@ -1,13 +1,22 @@
-"""The files of a ledger: which there are, and how their lines get to rad_audit."""
+"""The files of a ledger: which there are, what is not read, and how their lines get to rad_audit."""
+import contextlib
 import itertools
 import os
 import re
 import stat
 import zlib
 
-from trial.faults import Fault, shown_path, told_by
+from trial.faults import FAILED, Fault, shown_path, told_by
 
 STANDARD_INPUT, GZIP, AT_ONCE = "-", b"\x1f\x8b", 1 << 16
+# How a database of SQLite begins, as `import` and `--index` make them: it is no ledger. While one is written, another file stands beside it.
+DATABASE, BESIDE = b"SQLite format 3\0", ("-journal", "-wal", "-shm")
+# The folder of the heads beside a ledger, the endings of what is there, and how a folder begins in which one is made.
+HEADS, OF_HEADS, NEW = "heads", (".tsq", ".tsr"), ".new-"
+# The octets of the longest line of a ledger.
+MOST_LINE = 65_536
+# The status of a tool that did not read each file of a folder.
+UNREAD = 12
 # The date of its first line, which old files have not, the name of the run, and the number of the file in it.
 NAME = re.compile(r"(\d{4,}-\d\d-\d\d-)?(.*?)(\d+)\.jsonl(?:\.gz)?", re.DOTALL)
 # A name that is printed as it is. rad_audit gets each file under its own name, if it is such a one.
@@ -29,15 +38,53 @@ def in_order(names):
 
 
 def files_of(folder):
-    """The files of a ledger in a folder, in order. Of a file that is there compressed too it is the other one."""
+    """The files of a ledger in a folder, in order, and a line for each other one, which is not read. Of a file that is there compressed too
+    the other one is read."""
     try:
         names = set(os.listdir(folder))
     except OSError as error:
         raise Fault(f"{shown_path(folder)}: {told_by(error)}") from None
-    found = {it for it in names if it.endswith(".jsonl") or it.endswith(".jsonl.gz") and it[:-3] not in names}
+    reasons = {it: reason_of(folder, it, names) for it in names}
+    unread = [f"not read: {shown_path(os.path.join(folder, it))}: {reasons[it]}" for it in sorted(names) if reasons[it]]
+    found = {it for it in names if reasons[it] is None}
     if not found:
-        raise Fault(f"{shown_path(folder)}: no file *.jsonl or *.jsonl.gz is in this folder")
-    return [os.path.join(folder, it) for it in in_order(found)]
+        more = f", and {len(unread)} of other names are" if unread else ""
+        raise Fault(f"{shown_path(folder)}: no file *.jsonl or *.jsonl.gz is in this folder{more}", UNREAD if unread else FAILED)
+    return [os.path.join(folder, it) for it in in_order(found)], unread
+
+
+def reason_of(folder, name, names):
+    """Why what has this name in a folder is not read: None for a file of a ledger, and nothing for what rad_ledger puts there itself."""
+    path = os.path.join(folder, name)
+    try:
+        mode = os.stat(path).st_mode
+        if stat.S_ISDIR(mode):
+            return "" if name == HEADS and all(it.endswith(OF_HEADS) or it.startswith(NEW) for it in os.listdir(path)) else "a folder"
+        if not stat.S_ISREG(mode):
+            return "no file of a disk"
+        begins = front_of(path)
+    except OSError as error:
+        return told_by(error)
+    if begins == DATABASE or is_beside_database(folder, name):
+        return ""
+    if name.endswith(".jsonl.gz") and name[:-3] in names:
+        return f"{shown_path(name[:-3])} is read"
+    return None if name.endswith((".jsonl", ".jsonl.gz")) else "its name does not end with .jsonl or .jsonl.gz"
+
+
+def front_of(path):
+    """The first octets of a file."""
+    with open(path, "rb") as file:
+        return file.read(len(DATABASE))
+
+
+def is_beside_database(folder, name):
+    """Whether a file is one that SQLite makes while it writes a database."""
+    for ending in BESIDE:
+        with contextlib.suppress(OSError):
+            if name.endswith(ending) and front_of(os.path.join(folder, name.removesuffix(ending))) == DATABASE:
+                return True
+    return False
 
 
 class Source:
@@ -60,6 +107,10 @@ class Source:
             raise Fault(f"file: {self}: {told_by(error)}") from None
         except ValueError:
             raise Fault(f"file: {self}: no name of a file") from None
+
+    @property
+    def can_be_read_again(self):
+        return not self.is_input and os.path.isfile(self.path)
 
     def __str__(self):
         return "standard input" if self.is_input else shown_path(self.path)
@@ -97,6 +148,15 @@ class Source:
             raise Fault(f"file: {self}: it is damaged, and was read up to there") from None
         if member:
             raise Fault(f"file: {self}: it was cut short, and was read up to there")
+
+
+def lines_in(pieces):
+    """The lines of a file. What has no line end was cut short. Of one that is too long the front is enough."""
+    rest = b""
+    for octets in pieces:
+        *lines, rest = (rest + octets).split(b"\n")
+        rest = rest[: MOST_LINE + 1]
+        yield from lines
 
 
 def read_pieces(file, tell):

@@ -2,6 +2,7 @@
 import argparse
 
 from .choosing import lower
+from .auditing import Beside
 from .rows import STOP, visible
 
 BY = {
@@ -61,4 +62,6 @@ def add_up(audit, choice, by):
             sums.add(row)
     verdict = audit.verdict()
     yield from sums.lines()
+    if verdict.beside:
+        yield Beside(verdict.beside.removeprefix("; "))
     yield verdict

@@ -7,3 +7,4 @@ pub mod Serials
 pub mod Outlets
 pub mod Edges
 pub mod Kept
+pub mod Requests

@@ -4,10 +4,10 @@ use Rattle.rad_packet.specs.Packet.{IsPacketText, authenticator_of, code_of, ide
 use Rattle.rad_auth.specs.Authenticator.{IsRightRequest}
 use Rattle.ledger_rules.specs.declared.left.Left.{Left}
 use Rattle.ledger_rules.specs.declared.reason.Reason.{Reason}
-use Rattle.ledger_rules.specs.declared.reason.Reason.TheVariants.{NotEntry, NoPacket, WrongSent, WrongReply, WrongResponse, SerialNotAbove, UnknownLane, RecordTwice, WrongWords, WrongSum}
+use Rattle.ledger_rules.specs.declared.reason.Reason.TheVariants.{NotEntry, NoPacket, WrongSent, WrongRequest, WrongReply, WrongResponse, SerialNotAbove, UnknownLane, RecordTwice, WrongWords, WrongSum}
 
 -- Its packet is an Accounting-Request with this Identifier and this Authenticator, and right under the client's secret where that is
--- known.
+-- known. It is the request itself, so what is wrong with it is WrongSent, and never WrongRequest.
 pub record HasRequest (left : Left) (client : Option (List ℕ)) : Type 0 where
   pub code : code_of left.request.now ≡ 4
   pub identifier : identifier_of left.request.now ≡ left.about.identifier
@@ -25,6 +25,7 @@ abbrev pub IsWronglyLeft : Left → Option (List ℕ) → Type 0 → Type 0 → 
 IsWronglyLeft left client Named Twice NotEntry = ⊥
 IsWronglyLeft left client Named Twice NoPacket = ¬ IsPacketText left.request.now
 IsWronglyLeft left client Named Twice WrongSent = IsPacketText left.request.now × ¬ HasRequest left client
+IsWronglyLeft left client Named Twice WrongRequest = ⊥
 IsWronglyLeft left client Named Twice WrongReply = ⊥
 IsWronglyLeft left client Named Twice WrongResponse = ⊥
 IsWronglyLeft left client Named Twice SerialNotAbove = ⊥

@@ -2,7 +2,7 @@
 use Rattle.std.specs.Prelude.{ℕ, List, ◌++◌, codes}
 use Rattle.std.specs.Fmt.{decimal}
 use Rattle.ledger_rules.specs.declared.reason.Reason.{Reason}
-use Rattle.ledger_rules.specs.declared.reason.Reason.TheVariants.{NotEntry, NoPacket, WrongSent, WrongReply, WrongResponse, SerialNotAbove, UnknownLane, RecordTwice, WrongWords, WrongSum}
+use Rattle.ledger_rules.specs.declared.reason.Reason.TheVariants.{NotEntry, NoPacket, WrongSent, WrongRequest, WrongReply, WrongResponse, SerialNotAbove, UnknownLane, RecordTwice, WrongWords, WrongSum}
 use Rattle.ledger_rules.specs.declared.tally.Gap.{Gap}
 use Rattle.ledger_rules.specs.declared.tally.Verdict.{Verdict}
 use Rattle.ledger_rules.specs.declared.tally.Verdict.TheVariants.{Whole, Open, Missing, Unaccounted, Part, Contradicted}
@@ -11,6 +11,7 @@ abbrev pub reason_text : Reason → List ℕ
 reason_text NotEntry = codes "NotEntry"
 reason_text NoPacket = codes "NoPacket"
 reason_text WrongSent = codes "WrongSent"
+reason_text WrongRequest = codes "WrongRequest"
 reason_text WrongReply = codes "WrongReply"
 reason_text WrongResponse = codes "WrongResponse"
 reason_text SerialNotAbove = codes "SerialNotAbove"

@@ -1,13 +1,13 @@
 //! Packets as a ledger has them: whole and without padding.
 
-ghost use Rattle.std.specs.Prelude.{◌≡◌, ◌↔◌, ◌++◌, [], ◌∷◌, List, IsTrue, MatchOption};
-ghost use Rattle.rad_packet.specs.Attribute.{Attribute};
+ghost use Rattle.std.specs.Prelude.{◌≡◌, ◌≤◌, ◌↔◌, ◌++◌, [], ◌∷◌, List, length, IsTrue, MatchOption};
+ghost use Rattle.rad_packet.specs.Attribute.{Attribute, joined};
 ghost use Rattle.rad_packet.specs.Item.{attribute_at};
 ghost use Rattle.rad_packet.specs.Packet.{IsPacketText, packet_attributes};
 ghost use Rattle.rad_auth.specs.Mark.{EndsWithMark, mark_attribute, mark_value};
 
 use rad_auth::{MARK_LENGTH, Mark, PROXY_STATE};
-use rad_packet::{AttributeRef, PacketRef, read};
+use rad_packet::{AttributeRef, HEADER_LENGTH, PacketRef, read};
 
 /// Returns the packet that these octets are, if they are one and no octets follow it.
 pub fn whole_packet(octets: &[u8]) -> Option<PacketRef<'_>>
@@ -32,6 +32,17 @@ pub fn ends_with_mark(packet: &PacketRef<'_>, mark: Mark) -> bool
         Some(attribute) => is_mark(attribute, mark),
         None => false,
     }
+}
+
+/// Returns the attributes of a packet before this mark, which is its last one.
+#[tactic(auto, using(crate::proofs::Requests::octets_before, crate::proofs::Requests::room_for_mark))]
+pub(crate) fn attributes_before<'a>(packet: &PacketRef<'a>, mark: Mark) -> &'a [u8]
+    requires { EndsWithMark mark packet.now }
+    ensures before { (ends : EndsWithMark mark packet.now) → result.now ≡ joined ends.before }
+    ensures fits { length result.now ≤ 4076 }
+{
+    let octets = packet.octets();
+    &octets[HEADER_LENGTH..octets.len() - MARK_LENGTH]
 }
 
 fn last_attribute<'a>(packet: &PacketRef<'a>) -> Option<AttributeRef<'a>>

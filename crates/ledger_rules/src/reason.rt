@@ -12,6 +12,9 @@ pub enum Reason {
     /// What was sent is not valid under the home server's secret, or does not end with the mark of its lane and number. Of a
     /// request that was left: it is not the one that the line names, or is not valid under the client's secret.
     WrongSent,
+    /// The request is not valid under the client's secret: an Accounting-Request with the Identifier and the Authenticator of the
+    /// line, and with the attributes of what was sent but for the mark.
+    WrongRequest,
     /// The reply is not valid for what was sent.
     WrongReply,
     /// The response is not the reply without the mark, or is not valid for the request under the client's secret.
@@ -39,6 +42,7 @@ impl fmt::Display for Reason {
             Reason::NotEntry => f.write_str("NotEntry"),
             Reason::NoPacket => f.write_str("NoPacket"),
             Reason::WrongSent => f.write_str("WrongSent"),
+            Reason::WrongRequest => f.write_str("WrongRequest"),
             Reason::WrongReply => f.write_str("WrongReply"),
             Reason::WrongResponse => f.write_str("WrongResponse"),
             Reason::SerialNotAbove => f.write_str("SerialNotAbove"),

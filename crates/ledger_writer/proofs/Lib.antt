@@ -1,3 +1,4 @@
+mod Accounts
 mod Parcels
 mod Passing
 mod RunLines

@@ -31,7 +31,7 @@ pub record GivesNothing (old new : ParcelGiver) : Type 0 where
 pub record PutsEntry {R : Type 0} (old : LedgerInlet R) (outgoing : Outgoing) (new : LedgerInlet R) : Type 0 where
   pub parcel : Parcel
   pub is : IsParcelOf new.time outgoing parcel
-  pub given : Gives old.giver parcel new.giver
+  pub given : Gives old.accounted.giver parcel new.accounted.giver
 
 -- The next parcel is taken from the buffer: its head, and then its packets, which are the front of the room. Or nothing is.
 pub record TakesParcel (old : EntryBuffer) (head : ParcelHead) (new : EntryBuffer) : Type 0 where

@@ -1,3 +1,4 @@
+pub mod Accounted
 pub mod Buffer
 pub mod Entries
 pub mod Fills

@@ -1,14 +1,16 @@
 //! What the front hands each response to, and at the end each request that is left.
 
-ghost use Rattle.std.specs.Prelude.{◌≡◌, ◌⊎◌, Some, MatchBool, vec_len};
+ghost use Rattle.std.specs.Prelude.{◌≡◌, ◌⊎◌, ◌∷◌, ◌++◌, [], ℕ, Some, MatchBool, vec_len};
+ghost use Rattle.rad_desk.specs.HandOver.{handed_at};
+ghost use Rattle.rad_desk.specs.Leaving.{as_left};
 ghost use Rattle.ledger_writer.specs.Buffer.{Gives, GivesNothing, PutsEntry};
-ghost use Rattle.ledger_writer.specs.Parcels.{IsCounted};
+ghost use Rattle.ledger_writer.specs.Parcels.{IsCounted, IsParcelOfLeft};
 
-use crate::giving::ParcelGiver;
+use crate::accounting::AccountedGiver;
 use crate::parcel::{Parcel, ParcelHead};
 use crate::shares::{ClientShares, NOTHING, Taking};
 use ledger_state::LedgerState;
-use rad_desk::{Handed, Ledger, LeftRecord, Wire};
+use rad_desk::{Ledger, LeftRecord, Wire};
 use rad_lane::{Counts, Outgoing};
 use rad_metrics::time_since_1970;
 use std::sync::{Arc, Wait, WaitMethods};
@@ -27,20 +29,19 @@ pub struct LedgerInlet<'a, R> {
     pub(crate) longest: Duration,
     /// The last time that was read, in milliseconds since 1970.
     pub(crate) time: u64,
-    pub(crate) giver: ParcelGiver,
+    /// The end of the buffer, with all that was handed over and told as left so far, also what was dropped.
+    pub(crate) accounted: AccountedGiver,
     /// What the entries of each client took of the buffer so far, in the order of the configuration.
     pub(crate) puts: Vec<Taking>,
     pub(crate) shares: Arc<ClientShares>,
     pub(crate) state: Arc<LedgerState>,
-    /// What was handed over so far, also what was dropped.
-    pub(crate) handed: Handed,
 }
 
 impl<R: Clock> LedgerInlet<'_, R> {
     /// Returns the time, in milliseconds since 1970. It is the last one if the clock can't be read.
     fn read_time(&mut self) -> u64
         ensures time { self.new.time ≡ result }
-        ensures same { (self.new.handed ≡ self.old.handed) × (self.new.giver ≡ self.old.giver) }
+        ensures same { self.new.accounted ≡ self.old.accounted }
     {
         self.time = time_since_1970(self.clock).unwrap_or(self.time);
         self.time
@@ -48,7 +49,9 @@ impl<R: Clock> LedgerInlet<'_, R> {
 }
 
 impl<R: Clock + Wait> Ledger for LedgerInlet<'_, R> {
-    ghost kept = { λ inlet. Some inlet.handed.responses };
+    ghost kept = { λ inlet. Some inlet.accounted.handed };
+
+    ghost left = { λ inlet. Some inlet.accounted.left };
 
     fn begin(&mut self) {
         self.state.begin();
@@ -58,18 +61,17 @@ impl<R: Clock + Wait> Ledger for LedgerInlet<'_, R> {
         let lane = outgoing.reply.mark().lane;
         self.state.hand_over(lane, outgoing.serial);
         let row = self.shares.row(outgoing.client);
-        if self.put(outgoing, row) {
+        if self.put(outgoing, wire, row) {
             self.state.count_put(self.time);
         } else {
             self.state.count_dropped(row);
         }
-        self.handed.add(outgoing, wire);
     }
 
     fn leave(&mut self, told: &LeftRecord<'_>) {
         let since = self.state.count_left(self.clock, told.lane);
         let parcel = Parcel::of_left(self.read_time(), told);
-        self.give_waiting(&parcel, since);
+        self.give_waiting(told, &parcel, since);
     }
 
     fn end_lane(&mut self, lane: u16, counts: &Counts) {
@@ -80,14 +82,17 @@ impl<R: Clock + Wait> Ledger for LedgerInlet<'_, R> {
 impl<R: Clock> LedgerInlet<'_, R> {
     /// Puts the entry of a response to the client in a row into the buffer, whole, and returns whether there was room for it
     /// within the client's share.
-    fn put(&mut self, outgoing: &Outgoing, row: Option<usize>) -> bool
-        ensures put { MatchBool result (PutsEntry self.old outgoing.now self.new) (GivesNothing self.old.giver self.new.giver) }
-        ensures handed { self.new.handed ≡ self.old.handed }
+    fn put<W: Wire>(&mut self, outgoing: &Outgoing, wire: &W, row: Option<usize>) -> bool
+        ensures put { MatchBool result (PutsEntry self.old outgoing.now self.new) (GivesNothing self.old.accounted.giver self.new.accounted.giver) }
+        ensures handed { self.new.accounted.handed ≡ self.old.accounted.handed ++ handed_at (W.log wire.now) outgoing.now ∷ [] }
     {
         let time = self.read_time();
         let parcel = Parcel::of(time, outgoing);
         let held = self.held(&parcel.head, row);
-        let is_put = self.giver.give_share(&parcel, self.puts.len(), held);
+        let clients = self.puts.len();
+        let is_put = self
+            .accounted
+            .hand_over(outgoing, wire, &parcel, clients, held);
         if is_put {
             add_put(&mut self.puts, row, &parcel);
         }
@@ -97,13 +102,14 @@ impl<R: Clock> LedgerInlet<'_, R> {
     /// Returns how much of the buffer the entries of the client in a row take, if this one would leave less than half of it
     /// free. Before that a client has no share.
     fn held(&mut self, head: &ParcelHead, row: Option<usize>) -> Taking
-        ensures giver { GivesNothing self.old.giver self.new.giver }
-        ensures same { (self.new.handed ≡ self.old.handed) × (self.new.time ≡ self.old.time) }
+        ensures giver { GivesNothing self.old.accounted.giver self.new.accounted.giver }
+        ensures handed { self.new.accounted.handed ≡ self.old.accounted.handed }
+        ensures time { self.new.time ≡ self.old.time }
     {
         let Some(row) = row else {
             return NOTHING;
         };
-        if !head.fits() || !self.giver.is_past_half(head) {
+        if !head.fits() || !self.accounted.is_past_half(head) {
             return NOTHING;
         }
         match self.puts.get(row) {
@@ -131,21 +137,24 @@ fn add_put(puts: &mut Vec<Taking>, row: Option<usize>, parcel: &Parcel<'_>)
 }
 
 impl<R: Clock + Wait> LedgerInlet<'_, R> {
-    /// Puts a parcel into the buffer once it has room for it, unless the time for that is over. It counts from this
-    /// moment; if that is not known, nothing waits.
-    fn give_waiting(&mut self, parcel: &Parcel<'_>, since: Option<Instant>)
-        requires { IsCounted parcel.now }
-        ensures { Gives self.old.giver parcel.now self.new.giver ⊎ GivesNothing self.old.giver self.new.giver }
+    /// Puts the parcel of a request that is told as left into the buffer once it has room for it, unless the time for that
+    /// is over: then the request is dropped. The time counts from this moment; if that is not known, nothing waits.
+    fn give_waiting(&mut self, told: &LeftRecord<'_>, parcel: &Parcel<'_>, since: Option<Instant>)
+        requires counted { IsCounted parcel.now }
+        requires its { (time : ℕ) × IsParcelOfLeft time told.now parcel.now }
+        ensures put { Gives self.old.accounted.giver parcel.now self.new.accounted.giver ⊎ GivesNothing self.old.accounted.giver self.new.accounted.giver }
+        ensures left { self.new.accounted.left ≡ self.old.accounted.left ++ as_left told.now ∷ [] }
     {
         for _ in self.clock.forever() {
-            if self.giver.give(parcel) {
+            if self.accounted.give_left(told, parcel) {
                 return;
             }
             if self.is_over(since) {
-                return;
+                break;
             }
             thread::sleep(self.clock, Duration::from_millis(LOOK));
         }
+        self.accounted.drop_left(told);
     }
 
     /// Returns whether the time for which requests that are left may wait is over, counted from this moment.

@@ -10,12 +10,13 @@
 //! one is begun before a file has more than 256 MiB, and at midnight UTC. No file is ever removed or replaced.
 //!
 //! The definitions that the contracts cite are in specs: `Parcels` has the form of a response in the buffer, `Buffer` what
-//! is put into it and taken from it, `Shares` what a client may take of it, `Entries` the entry that a parcel is written as,
-//! `Fills` the lines of many, and `RunNames` the names in it. No contract says what passes from one thread to the other: not
-//! that the parcels that are taken are those that were put, nor a count, nor what a client has in the buffer. Tests check
-//! that.
+//! is put into it and taken from it, `Accounted` what became of what was handed over, `Shares` what a client may take of it,
+//! `Entries` the entry that a parcel is written as, `Fills` the lines of many, and `RunNames` the names in it. No contract
+//! says what passes from one thread to the other: not that the parcels that are taken are those that were put, nor a count,
+//! nor what a client has in the buffer. Tests check that.
 #![tactic(auto)]
 
+mod accounting;
 mod entry_buffer;
 mod file_before;
 mod filling;

@@ -4,6 +4,7 @@ ghost use Rattle.std.specs.Prelude.{◌≡◌, [], length, vec_len, IfOk};
 ghost use Rattle.ledger_writer.specs.Buffer.{HasRoom};
 ghost use Rattle.ledger_writer.specs.RunNames.{AreNamesOf};
 
+use crate::accounting::AccountedGiver;
 use crate::entry_buffer::EntryBuffer;
 use crate::filling::new_batch;
 use crate::giving::{PLACES, ParcelGiver, ROOM};
@@ -15,7 +16,6 @@ use crate::writer::{LedgerWriter, LineSource};
 use ledger_files::LedgerDisk;
 use ledger_lines::MOST_LINE_OCTETS;
 use ledger_state::{LedgerFault, LedgerState, log_ledger_fault};
-use rad_desk::Handed;
 use rad_log::Log;
 use rad_metrics::time_since_1970;
 use rad_realms::{Config, Home};
@@ -75,8 +75,9 @@ pub fn open_ledger<'a, R: Clock + RandomSource>(
     config: &Config,
     longest: Duration,
 ) -> Result<OpenedLedger<'a, R>, AllocError>
-    ensures kept { IfOk result (λ opened. opened.inlet.handed.responses ≡ []) }
-    ensures room { IfOk result (λ opened. HasRoom 67108864 180000 opened.inlet.giver) }
+    ensures kept { IfOk result (λ opened. opened.inlet.accounted.handed ≡ []) }
+    ensures left { IfOk result (λ opened. opened.inlet.accounted.left ≡ []) }
+    ensures room { IfOk result (λ opened. HasRoom 67108864 180000 opened.inlet.accounted.giver) }
     ensures folder { IfOk result (λ opened. opened.writer.source.folder ≡ folder) }
     ensures names { IfOk result (λ opened. AreNamesOf config.now.homes opened.writer.source.names.homes.items) }
     ensures lanes { IfOk result (λ opened. vec_len opened.writer.source.lanes ≡ length config.now.homes) }
@@ -134,19 +135,20 @@ fn open_inlet<'a, R: Clock>(
     shared: &Shared,
     longest: Duration,
 ) -> Result<LedgerInlet<'a, R>, AllocError>
-    ensures kept { IfOk result (λ inlet. inlet.handed.responses ≡ []) }
-    ensures giver { IfOk result (λ inlet. inlet.giver ≡ giver) }
+    requires { HasRoom 67108864 180000 giver }
+    ensures kept { IfOk result (λ inlet. inlet.accounted.handed ≡ []) }
+    ensures left { IfOk result (λ inlet. inlet.accounted.left ≡ []) }
+    ensures giver { IfOk result (λ inlet. inlet.accounted.giver ≡ giver) }
     ensures puts { IfOk result (λ inlet. inlet.puts ≡ puts) }
 {
     Ok(LedgerInlet {
         clock: rt,
         longest,
         time: 0,
-        giver,
+        accounted: AccountedGiver::new(giver),
         puts,
         shares: Arc::try_clone(&shared.shares)?,
         state: Arc::try_clone(&shared.state)?,
-        handed: Handed::new(),
     })
 }
 

@@ -4,8 +4,8 @@
 //! of `tests`.
 //!
 //! `queues`, `sliding` and `tables` test the collections, `lane` a lane, `desk` the end of a proxy, `server` sockets and
-//! threads, `telemetry` the log and the metrics, and `lines` the lines of a ledger. `nas` and `homes` have the packets that
-//! tests share.
+//! threads, `telemetry` the log and the metrics, `lines` the lines of a ledger, and `requests` what signs a request. `nas` and
+//! `homes` have the packets that tests share.
 #![tactic(auto)]
 
 #[cfg(test)]
@@ -26,6 +26,8 @@ mod nas;
 mod numbers;
 #[cfg(test)]
 mod queues;
+#[cfg(test)]
+mod requests;
 #[cfg(test)]
 mod server;
 #[cfg(test)]

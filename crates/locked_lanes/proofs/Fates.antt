@@ -1,11 +1,12 @@
 -- What becomes of each request, after each call of its lane.
 use Rattle.std.proofs.Common.{◌≡◌, ℕ, ◌+◌, ◌-◌, ◌/◌, ◌%◌, ◌≤◌, ◌<◌, ◌^◌, Bool, true, false, List, [], ◌∷◌, ◌++◌, length, drop, replicate, cond, refl, sym, ap, ◌∙◌, subst, arith, lit≤, length-append, append_assoc, inr}
-use Rattle.std.specs.Prelude.{◌==◌, nat_lt, map as each, Some, None, Option, Result, Ok, Err}
+use Rattle.std.specs.Prelude.{◌==◌, nat_lt, map as each, All, Some, None, Option, Result, Ok, Err}
 use Rattle.std.specs.Int.{w16, w64, from_be_bytes, to_be_bytes}
 use Rattle.std.specs.List.{count_by, sum_by, filter_map}
 use Rattle.std.proofs.lemmas.List.Sums.{sum_by-append, sum_by-cons, sum_by_push}
 use Rattle.std.proofs.lemmas.List.Sorted.{sum_by-IsPermutation, length_permutation}
 use Rattle.std.proofs.lemmas.List.{length-map}
+use Rattle.std.proofs.lemmas.List.Elements.{All-head, All-tail}
 use Rattle.rad_lane.specs.Counting.{counts_of}
 use Rattle.locked_lanes.specs.Lawful.{AddUp}
 use Rattle.std.proofs.Math.Seq.{drop-append_seam}
@@ -48,8 +49,8 @@ use Rattle.rad_lane.specs.declared.outgoing.Outgoing.{Outgoing}
 use Rattle.rad_lane.specs.Stamp.{Recorded}
 use Rattle.rad_lane.specs.Outstanding.{Outstanding, AnswerKept}
 use Rattle.rad_lane.specs.Book.{Book, moment_in, next_number, outstanding_of}
-use Rattle.rad_lane.specs.Lawful.{IsLawful}
-use Rattle.locked_lanes.specs.Fates.{queued_with, outstanding_with, answered_with, marked_number, AccountsForAll, EachOnce}
+use Rattle.rad_lane.specs.Lawful.{IsLawful, IsVerified}
+use Rattle.locked_lanes.specs.Fates.{queued_with, outstanding_with, answered_with, marked_number, AccountsForAll, AnswersARecord, EachOnce}
 
 -- How many stamps have this number.
 abbrev pub stamps_with : ℕ → List Stamp → ℕ
@@ -336,6 +337,21 @@ unanswered old new now port datagram answer outgoing given lawful stays h out ac
     let small : number < 2 ^ 64 = below_mark number (next_number old) below accounts.fits in
     let none : answered_with number given ≡ 0 = omega (arith, there, accounts.once number, at_most_one (nat_lt number (next_number old))) in
     ap (λ n. answered_with n given) (marked old port datagram answer outgoing now new lawful h out small) ∙ none
+
+-- The last of some items.
+all_last : {X : Type 0} (P : X → Type 0) (xs : List X) (x : X) → All P (xs ++ x ∷ []) → P x
+all_last P [] x all = All-head P x [] all
+all_last P (y ∷ xs) x all = all_last P xs x (All-tail P y (xs ++ x ∷ []) all)
+
+-- The answer that goes out is that of a record.
+pub answers_record : (old new : Book) (now port : ℕ) (datagram : List ℕ) (answer : AnswerKept) (outgoing : Outgoing) → IsLawful new → HearsReply old now port datagram answer new → GoesOut answer outgoing → AnswersARecord outgoing
+answers_record old new now port datagram answer outgoing stays h out =
+    let Requests : Type 0 = List Recorded × List Stamp × List AnswerKept × ℕ in
+    let made : requests_of new ≡ (old.queued, old.sent, old.answered ++ answer ∷ [], next_number old) = coming_up old.watch now _ new h.book in
+    let kept : new.answered ≡ old.answered ++ answer ∷ [] = ap (λ (q : Requests). q.2) made in
+    let Right : AnswerKept → Type 0 = IsVerified new.setup new.last new.served in
+    let verified : Right answer = all_last Right old.answered answer (subst (All Right) kept stays.answers_verified) in
+    record { answer = answer; answered = verified.answered; goes_out = out }
 
 -- One response more, to a request that none before it answers.
 once_cases : (own number before : ℕ) (is : Bool) → (own == number) ≡ is → before ≤ 1 → (own ≡ number → before ≡ 0) → before + cond is 1 0 ≤ 1

@@ -2,6 +2,7 @@
 use Rattle.std.proofs.Common.{◌≡◌, ℕ, ◌≤◌, sym, subst}
 use Rattle.std.specs.Prelude.{List, not, Result, Ok, Err}
 use Rattle.std.proofs.lemmas.List.Elements.{All-filter}
+use Rattle.rad_config.specs.declared.limits.LimitNumbers.{LimitNumbers}
 use Rattle.rad_lane.specs.declared.outgoing.Outgoing.{Outgoing}
 use Rattle.rad_lane.specs.declared.turning.Volume.{Volume}
 use Rattle.rad_lane.specs.declared.turning.TurnFault.{TurnFault}
@@ -32,3 +33,8 @@ pub numbered_turned : (old new : Book) (number moment : ℕ) (result : Result Vo
 numbered_turned old new number moment (Ok volume) t h = subst (λ (book : Book). book.setup.lane ≡ number) (sym t.5) h
 numbered_turned old new number moment (Err NothingToTurn) t h = subst (λ (book : Book). book.setup.lane ≡ number) (sym t.1) h
 numbered_turned old new number moment (Err OutOfMemory) t h = subst (λ (book : Book). book.setup.lane ≡ number) (sym t.4) h
+
+pub limited_turned : (old new : Book) (limits : LimitNumbers) (moment : ℕ) (result : Result Volume TurnFault) → Turns old moment result new → old.setup.limits ≡ limits → new.setup.limits ≡ limits
+limited_turned old new limits moment (Ok volume) t h = subst (λ (book : Book). book.setup.limits ≡ limits) (sym t.5) h
+limited_turned old new limits moment (Err NothingToTurn) t h = subst (λ (book : Book). book.setup.limits ≡ limits) (sym t.1) h
+limited_turned old new limits moment (Err OutOfMemory) t h = subst (λ (book : Book). book.setup.limits ≡ limits) (sym t.4) h

@@ -6,6 +6,7 @@ use Rattle.std.proofs.lemmas.List.{map-append}
 use Rattle.std.proofs.lemmas.List.Elements.{All-push}
 use Rattle.rtrb.specs.declared.errors.PopError.{PopError}
 use Rattle.rad_auth.specs.Replied.{Replied}
+use Rattle.rad_config.specs.declared.limits.LimitNumbers.{LimitNumbers}
 use Rattle.rad_lane.specs.declared.stamp.Stamp.{Stamp}
 use Rattle.rad_lane.specs.declared.outgoing.Outgoing.{Outgoing}
 use Rattle.rad_lane.specs.Setup.{LaneSetup}
@@ -99,6 +100,13 @@ numbered_answered old new number now port datagram answer h is = ap (λ (a : Lis
 
 pub numbered_same : (old new : Book) (number : ℕ) → answers_of new ≡ answers_of old → old.setup.lane ≡ number → new.setup.lane ≡ number
 numbered_same old new number same is = ap (λ (a : List AnswerKept × ℕ × LaneSetup). a.2.lane) same ∙ is
+
+-- The lane has the same limits.
+pub limited_answered : (old new : Book) (limits : LimitNumbers) (now port : ℕ) (datagram : List ℕ) (answer : AnswerKept) → HearsReply old now port datagram answer new → old.setup.limits ≡ limits → new.setup.limits ≡ limits
+limited_answered old new limits now port datagram answer h is = ap (λ (a : List AnswerKept × ℕ × LaneSetup). a.2.limits) (one_more_by_reply old new now port datagram answer h) ∙ is
+
+pub limited_same : (old new : Book) (limits : LimitNumbers) → answers_of new ≡ answers_of old → old.setup.limits ≡ limits → new.setup.limits ≡ limits
+limited_same old new limits same is = ap (λ (a : List AnswerKept × ℕ × LaneSetup). a.2.limits) same ∙ is
 
 pub bounded_answered : (old new : Book) (now port : ℕ) (datagram : List ℕ) (answer : AnswerKept) → HearsReply old now port datagram answer new → old.setup.limits.queue ≤ 65536 → new.setup.limits.queue ≤ 65536
 bounded_answered old new now port datagram answer h = bounded_by old new (ap (λ (a : List AnswerKept × ℕ × LaneSetup). a.2) (one_more_by_reply old new now port datagram answer h))

@@ -11,13 +11,14 @@ use Rattle.rad_lane.specs.declared.stepping.Action.{Action}
 use Rattle.rad_lane.specs.declared.stepping.Action.TheVariants.{Sent, Resent, Probed, WentDown, WentUp, Idle}
 use Rattle.rad_lane.specs.Stamp.{Recorded, IsRecord}
 use Rattle.rad_lane.specs.Outstanding.{AnswerKept, IsAnswered}
-use Rattle.rad_lane.specs.Setup.{IsOf}
+use Rattle.rad_lane.specs.Setup.{LaneSetup, IsOf}
 use Rattle.rad_lane.specs.Book.{Book}
 use Rattle.rad_lane.specs.Accepts.{IsTaken, Accepts}
 use Rattle.rad_lane.specs.Steps.{Steps}
 use Rattle.rad_lane.specs.Lawful.{IsLawful}
 use Rattle.rad_lane.specs.Datagrams.{Datagrams}
 use Rattle.rad_realms.specs.Checking.{Request}
+use Rattle.rad_realms.specs.Configuration.{HomeEntry}
 
 -- The octets are the forwarded packet of a valid record, with the mark of some lane, under some secret.
 pub record ForwardsARecord (octets : List ℕ) : Type 0 where
@@ -60,19 +61,24 @@ Returns (Ok (New number)) d = d.after ≡ d.before
 Returns (Ok (Waiting number)) d = d.after ≡ d.before
 Returns (Err refusal) d = d.after ≡ d.before
 
--- One step of a lawful book, with this lane's number and this home server's secret, has this action and these
+-- The lane has this number, and its home server has this secret and these limits.
+pub record IsOfHome (setup : LaneSetup) (lane : ℕ) (home : HomeEntry) : Type 0 where
+  pub is_of : IsOf setup lane home.secret
+  pub limits : setup.limits ≡ home.limits
+
+-- One step of a lawful book, with this lane's number and this home server's secret and limits, has this action and these
 -- datagrams, and the book is lawful after it.
-pub record StepsFor (lane : ℕ) (secret : List ℕ) (moment : ℕ) (random : List ℕ) (action : Action) (d : Datagrams) : Type 0 where
+pub record StepsFor (lane : ℕ) (home : HomeEntry) (moment : ℕ) (random : List ℕ) (action : Action) (d : Datagrams) : Type 0 where
   pub old : Book
   pub new : Book
   pub lawful : IsLawful old
   pub stays : IsLawful new
-  pub is_of : IsOf old.setup lane secret
+  pub is_of : IsOfHome old.setup lane home
   pub steps : Steps old moment random action d new
 
 -- Such a step, after which the book holds `held` requests.
-pub record StepsHolding (lane : ℕ) (secret : List ℕ) (moment : ℕ) (random : List ℕ) (action : Action) (held : ℕ) (d : Datagrams) : Type 0 where
-  pub steps : StepsFor lane secret moment random action d
+pub record StepsHolding (lane : ℕ) (home : HomeEntry) (moment : ℕ) (random : List ℕ) (action : Action) (held : ℕ) (d : Datagrams) : Type 0 where
+  pub steps : StepsFor lane home moment random action d
   pub counted : held ≡ length steps.new.accepted
 
 -- A lawful book to which the request leads has this result and these datagrams for it, and is lawful after it.

@@ -4,7 +4,8 @@ use Rattle.std.specs.Int.{w64, from_be_bytes}
 use Rattle.std.specs.List.{count_by}
 use Rattle.rad_lane.specs.declared.outgoing.Outgoing.{Outgoing}
 use Rattle.rad_lane.specs.Stamp.{Recorded}
-use Rattle.rad_lane.specs.Outstanding.{Outstanding}
+use Rattle.rad_lane.specs.Outstanding.{Outstanding, AnswerKept, IsAnswered}
+use Rattle.rad_lane.specs.Hears.{GoesOut}
 use Rattle.rad_lane.specs.Book.{Book, next_number, outstanding_of}
 
 -- The number of the request in the mark of a packet that was sent: its last eight octets.
@@ -29,10 +30,19 @@ pub record AccountsForAll (book : Book) (given : List Outgoing) : Type 0 where
   -- Each number fits in a mark.
   pub fits : next_number book ≤ 2 ^ 62
 
--- A response may follow these in a ring: its serial is their number, and none of them answers the same request.
+-- The response answers a valid record, after a verified reply to the packet that was forwarded of it, and goes to the client
+-- and port of that record.
+pub record AnswersARecord (response : Outgoing) : Type 0 where
+  pub answer : AnswerKept
+  pub answered : IsAnswered answer
+  pub goes_out : GoesOut answer response
+
+-- A response may follow these in a ring: its serial is their number, none of them answers the same request, and it answers
+-- a record.
 pub record MayFollow (before : List Outgoing) (response : Outgoing) : Type 0 where
   pub serial : response.serial ≡ length before
   pub first : answered_with (marked_number response.reply.sending) before ≡ 0
+  pub answers : AnswersARecord response
 
 -- No two of these responses answer one request.
 abbrev pub EachOnce : List Outgoing → Type 0

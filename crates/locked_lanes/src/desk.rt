@@ -10,6 +10,7 @@ use crate::inlet::Inlet;
 use crate::numbered::Numbered;
 use block_queue::BlockQueue;
 use rad_lane::{Lane, Leftover, Outgoing, Record, Setup};
+use rad_realms::Limits;
 use rtrb::{Producer, RingBuffer};
 use std::alloc::Global;
 
@@ -34,12 +35,15 @@ pub struct Desk {
     pub(crate) lane: Lane<RecordQueue>,
     /// The number of the lane.
     pub(crate) number: u16,
+    /// The limits of the lane.
+    pub(crate) limits: Limits,
     /// The end of the ring to which responses are added.
     pub(crate) giver: Producer<Outgoing, Global, Numbered>,
     ghost outlet: { IsOutlet lane (sent giver) } by { Prim.hlevel props },
     ghost accounted: { AccountsForAll lane (sent giver) } by { Prim.hlevel props },
     ghost bounded: { lane.setup.limits.queue ≤ 65536 },
     ghost numbered: { lane.setup.lane ≡ number },
+    ghost limited: { lane.setup.limits ≡ limits },
 }
 
 impl Desk {
@@ -65,7 +69,8 @@ impl Desk {
         ensures ring { IfOk result (λ pair. AreOfOneRing pair.0 pair.1) }
     {
         let number = setup.lane();
-        let places = setup.limits().numbers().ring as usize;
+        let limits = *setup.limits();
+        let places = limits.numbers().ring as usize;
         let Ok((giver, taker)) = RingBuffer::with_protocol::<Global, Numbered>(alloc, places) else {
             return Err(OpenFault::OutOfMemory);
         };
@@ -75,6 +80,7 @@ impl Desk {
         let desk = Desk {
             lane,
             number,
+            limits,
             giver,
         };
         Ok((desk, Inlet::new(number, taker)))
@@ -104,6 +110,7 @@ impl Desk {
         let Desk {
             lane,
             number: _,
+            limits: _,
             giver: _,
         } = self;
         lane.close()

@@ -34,7 +34,7 @@ impl Inlet {
     ghost use Rattle.std.specs.Prelude.{◌≡◌, ◌<◌, ◌↔◌, ◌∷◌, ◌++◌, [], length, IsTrue, IsSome, IfSome, IfNone, OnOk};
     ghost use mathlib.Core.List.{IsPrefix};
     ghost use Rattle.rad_lane.specs.Outgoing.{InOrder};
-    ghost use Rattle.locked_lanes.specs.Fates.{EachOnce};
+    ghost use Rattle.locked_lanes.specs.Fates.{AnswersARecord, EachOnce};
     ghost use Rattle.locked_lanes.specs.Inlet.{lane_of, taken, seen, SameInlet, IsUntouched, HasRoom, Empties};
 
     /// Makes an inlet that has taken nothing yet.
@@ -69,6 +69,7 @@ impl Inlet {
         ensures same { SameInlet self.old self.new }
         ensures in_order { InOrder (taken self.new) }
         ensures once { EachOnce (taken self.new) }
+        ensures answers { IfSome result AnswersARecord }
     {
         match self.taker.pop() {
             Ok(response) => {

@@ -10,18 +10,16 @@ ghost use Rattle.rad_lane.specs.Lawful.{IsLawful};
 ghost use Rattle.locked_lanes.specs.Outlet.{IsOutlet};
 ghost use Rattle.locked_lanes.specs.Lawful.{AddUp};
 ghost use Rattle.locked_lanes.specs.Desk.{book, given, SameOutlet};
-ghost use Rattle.locked_lanes.specs.Departures.{Departs, Returns, StepsHolding, AcceptsLawfully, UnlessWrongLane};
+ghost use Rattle.locked_lanes.specs.Departures.{Departs, Returns, IsOfHome, StepsHolding, AcceptsLawfully, UnlessWrongLane};
 ghost use Rattle.locked_lanes.specs.Found.{LeadsElsewhere, IfWrongLane, StepsLawfully, HearsFor, HearsLawfully, DrainsFor, DrainsLawfully};
-ghost use Rattle.rad_lane.specs.Setup.{IsOf};
 
 use crate::desk::Desk;
 use crate::for_proof::step_lawfully;
 use crate::hearing::{DeskFault, Told};
 use crate::proxy::Stepped;
-use rad_auth::Secret;
 use rad_lane::{Action, Counts, HearFault, Refusal, Stamp, Taken};
 use rad_packet::Datagram;
-use rad_realms::Checked;
+use rad_realms::{Checked, Home};
 use rad_tables::Moment;
 use std::alloc::Global;
 
@@ -34,11 +32,11 @@ impl Desk {
         self.lane.takes(request)
     }
 
-    /// Returns whether the lane has this number and its home server this secret.
-    pub(crate) fn is_of(&self, number: u16, secret: &Secret) -> bool
-        ensures { IsTrue result ↔ IsOf (book self.now).setup number secret.now }
+    /// Returns whether the lane has this number and its home server this secret and these limits.
+    pub(crate) fn is_of(&self, number: u16, home: &Home) -> bool
+        ensures { IsTrue result ↔ IsOfHome (book self.now).setup number home.now }
     {
-        self.lane.is_of(number, secret)
+        self.lane.is_of(number, home.secret()) && self.limits.numbers() == home.limits().numbers()
     }
 
     /// Passes a request, which must lead to this lane, to the lane.
@@ -100,19 +98,20 @@ impl Desk {
         step_lawfully(&mut self.lane, moment, random, datagram)
     }
 
-    /// Does the lane's next step like [`Desk::step`], if the lane has this number and its home server this secret, and
-    /// otherwise does nothing. It returns the action with the number of requests that the book then holds.
+    /// Does the lane's next step like [`Desk::step`], if the lane has this number and its home server this secret and
+    /// these limits, and otherwise does nothing. It returns the action with the number of requests that the book then
+    /// holds.
     pub(crate) fn step_for(
         &mut self,
         number: u16,
-        secret: &Secret,
+        home: &Home,
         moment: Moment,
         random: [u8; 16],
         datagram: &mut Datagram,
     ) -> Option<Stepped>
-        ensures { IfSome result (λ stepped. StepsHolding number secret.now moment random stepped.action stepped.held (record { before = datagram.old; after = datagram.new })) }
+        ensures { IfSome result (λ stepped. StepsHolding number home.now moment random stepped.action stepped.held (record { before = datagram.old; after = datagram.new })) }
     {
-        if !self.is_of(number, secret) {
+        if !self.is_of(number, home) {
             return None;
         }
         let action = self.step(moment, random, datagram);

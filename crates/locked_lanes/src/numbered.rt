@@ -3,8 +3,8 @@
 use rad_lane::Outgoing;
 use rtrb::Protocol;
 
-/// The protocol of a lane's ring: the serial of each response is the number of responses before it, and none of these
-/// answers the same request.
+/// The protocol of a lane's ring: the serial of each response is the number of responses before it, none of these
+/// answers the same request, and it answers a record.
 #[derive(Clone, Copy)]
 pub(crate) struct Numbered;
 

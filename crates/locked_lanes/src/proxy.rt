@@ -2,8 +2,10 @@
 
 ghost use Rattle.std.specs.Prelude.{◌≡◌, ◌<◌, ◌≤◌, ◌⊎◌, length, map as each, All, IfOk, IfSome, [], Err};
 ghost use Rattle.std.specs.List.{range_with_len};
+ghost use Rattle.std.specs.Vec.{vec_len};
 ghost use Rattle.rad_lane.specs.declared.accepting.Refusal.TheVariants.{WrongLane};
 ghost use Rattle.rad_lane.specs.Datagrams.{Datagrams};
+ghost use Rattle.locked_lanes.specs.Desk.{AreNewOf};
 ghost use Rattle.locked_lanes.specs.Inlet.{lane_of, taken};
 ghost use Rattle.locked_lanes.specs.Departures.{Departs, Returns, StepsHolding, AcceptsLawfully, UnlessWrongLane};
 ghost use Rattle.locked_lanes.specs.Found.{LeadsElsewhere, IfWrongLane, StepsLawfully, HearsLawfully, DrainsLawfully};
@@ -12,10 +14,9 @@ ghost use Rattle.locked_lanes.specs.Lawful.{AreLawful, AddUp};
 use crate::desk::Desk;
 use crate::inlet::Inlet;
 use crate::{DeskFault, OpenFault, Told};
-use rad_auth::Secret;
 use rad_lane::{Action, Counts, Refusal, Setup, Taken};
 use rad_packet::Datagram;
-use rad_realms::{Checked, Config};
+use rad_realms::{Checked, Config, Home};
 use rad_tables::Moment;
 use std::alloc::Global;
 use std::hint::spin_loop;
@@ -64,6 +65,19 @@ pub fn open(alloc: Global, config: &Config) -> Result<(Proxy, Vec<Inlet>), OpenF
     ensures inlets { IfOk result (λ opened. each lane_of opened.1.items ≡ range_with_len 0 opened.0) }
     ensures taken { IfOk result (λ opened. All (λ i. taken i ≡ []) opened.1.items) }
 {
+    let (desks, inlets) = make_desks(alloc, config)?;
+    let desks = lock_all(alloc, desks)?;
+    Ok((Proxy { desks }, inlets))
+}
+
+/// Makes the lane of each home server of the configuration, over its setup, and the inlets of their rings.
+fn make_desks(alloc: Global, config: &Config) -> Result<(Vec<Desk>, Vec<Inlet>), OpenFault>
+    ensures desks { IfOk result (λ made. AreNewOf config.now 0 made.0.items) }
+    ensures count { IfOk result (λ made. length made.0.items ≡ length config.now.homes) }
+    ensures inlets { IfOk result (λ made. each lane_of made.1.items ≡ range_with_len 0 (length config.now.homes)) }
+    ensures taken { IfOk result (λ made. All (λ i. taken i ≡ []) made.1.items) }
+    ensures most { IfOk result (λ made. length made.0.items ≤ 64) }
+{
     let lanes = config.homes().len() as u16;
     let Ok(mut desks) = Vec::with_capacity(alloc, usize::from(lanes)) else {
         return Err(OpenFault::OutOfMemory);
@@ -76,10 +90,22 @@ pub fn open(alloc: Global, config: &Config) -> Result<(Proxy, Vec<Inlet>), OpenF
             return Err(OpenFault::OutOfMemory);
         };
         let (desk, inlet) = Desk::pair(alloc, setup)?;
-        desks.push_reserved(Mutex::new(desk));
+        desks.push_reserved(desk);
         inlets.push_reserved(inlet);
     }
-    Ok((Proxy { desks }, inlets))
+    Ok((desks, inlets))
+}
+
+fn lock_all(alloc: Global, desks: Vec<Desk>) -> Result<Vec<Mutex<Desk>>, OpenFault>
+    ensures { IfOk result (λ locks. vec_len locks ≡ vec_len desks) }
+{
+    let Ok(mut locks) = Vec::with_capacity(alloc, desks.len()) else {
+        return Err(OpenFault::OutOfMemory);
+    };
+    for desk in desks {
+        locks.push_reserved(Mutex::new(desk));
+    }
+    Ok(locks)
 }
 
 impl Proxy {
@@ -133,23 +159,23 @@ impl Proxy {
         self.lock(rt, lane).step(moment, random, datagram)
     }
 
-    /// Does a lane's next step like [`Proxy::step`], if the lane has this number and its home server this secret, and
-    /// otherwise does nothing. It returns the action with the number of requests that the book then holds, both under
-    /// one hold of the lock.
+    /// Does a lane's next step like [`Proxy::step`], if the lane has this number and its home server this secret
+    /// and these limits, and otherwise does nothing. It returns the action with the number of requests that the book
+    /// then holds, both under one hold of the lock.
     pub fn step_for(
         &self,
         rt: &impl Wait,
         lane: u16,
-        secret: &Secret,
+        home: &Home,
         moment: Moment,
         random: [u8; 16],
         datagram: &mut Datagram,
     ) -> Option<Stepped>
         requires { lane < self.now }
-        ensures { IfSome result (λ stepped. StepsHolding lane secret.now moment random stepped.action stepped.held (record { before = datagram.old; after = datagram.new })) }
+        ensures { IfSome result (λ stepped. StepsHolding lane home.now moment random stepped.action stepped.held (record { before = datagram.old; after = datagram.new })) }
     {
         self.lock(rt, lane)
-            .step_for(lane, secret, moment, random, datagram)
+            .step_for(lane, home, moment, random, datagram)
     }
 
     /// Passes a datagram that came to a source port of a lane from its home server to the lane.

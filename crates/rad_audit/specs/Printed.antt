@@ -1,5 +1,5 @@
 -- The lines that the auditor prints (own), without their line feeds.
-use Rattle.std.specs.Prelude.{ℕ, ◌^◌, ◌-◌, false, List, [], ◌++◌, codes, string_bytes}
+use Rattle.std.specs.Prelude.{ℕ, ◌^◌, ◌-◌, ◌==◌, false, not, if◌then◌else◌, List, [], ◌++◌, codes, string_bytes}
 use Rattle.std.specs.Fmt.{decimal, digits, format_spec, padded_integral}
 use Rattle.ledger_rules.specs.Printed.{gap_text, reason_text, verdict_text}
 use Rattle.ledger_rules.specs.declared.reason.Reason.TheVariants.{WrongSum}
@@ -26,6 +26,13 @@ counts_text counts =
     (codes "from " ++ decimal counts.first ++ codes " entries " ++ decimal counts.entries ++ codes " ")
     ++ (codes "not judged " ++ decimal counts.not_judged ++ codes " " ++ verdict_text counts.verdict)
 
+-- Why a lane is only a part.
+abbrev pub reasons_text : LaneCounts → List ℕ
+reasons_text counts =
+    codes "part:"
+    ++ ((if counts.late then codes " late" else []) ++ ((if counts.bare then codes " no-sum" else [])
+    ++ ((if counts.uncounted then codes " no-counts" else []) ++ (if not (counts.not_judged == 0) then codes " not-judged" else []))))
+
 abbrev pub steps_text : ℕ → List ℕ
 steps_text steps = codes "steps back in time " ++ decimal steps
 
@@ -36,6 +43,7 @@ line_of (finding.Gap place name gap) = place_text place ++ codes ": " ++ name_te
 line_of (finding.Files place run files) =
     place_text place ++ codes ": run " ++ run_text run ++ codes " files " ++ decimal files.first ++ codes " to " ++ decimal files.last ++ codes " missing"
 line_of (finding.Lane counts) = name_text counts.name ++ codes " " ++ counts_text counts
+line_of (finding.Part counts) = name_text counts.name ++ codes " " ++ reasons_text counts
 line_of (finding.Fates name fates) =
     name_text name ++ codes " accepted " ++ decimal fates.accepted ++ codes " answered " ++ decimal fates.answered ++ codes " left " ++ decimal fates.left
 line_of (finding.Ranges name) = name_text name ++ codes " more than 4096 ranges"

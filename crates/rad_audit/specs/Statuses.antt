@@ -42,10 +42,15 @@ abbrev pub is_contradicted : Verdict → Bool
 is_contradicted Contradicted = true
 is_contradicted _ = false
 
--- Whether a lane is a part that nobody asked for: its run begins before it, or has no sum, or some of its lines were not judged.
+-- Whether a lane is only a part: its run begins before it, or has no sum, or ends without its counts, or some of its lines were not
+-- judged.
+abbrev pub is_partial : LaneCounts → Bool
+is_partial counts = counts.late || (counts.bare || (counts.uncounted || not (counts.not_judged == 0)))
+
+-- Whether it is a part that nobody asked for.
 abbrev pub is_unasked : Asked → LaneCounts → Bool
 is_unasked asked counts =
-    (counts.late && not (asked.from || asked.partial)) || ((counts.bare || not (counts.not_judged == 0)) && not asked.partial)
+    (counts.late && not (asked.from || asked.partial)) || ((counts.bare || (counts.uncounted || not (counts.not_judged == 0))) && not asked.partial)
 
 -- What is found with one lane more.
 abbrev pub found_in : Asked → LaneCounts → Findings → Findings
@@ -65,6 +70,7 @@ found_with asked (finding.Torn place) f = f
 found_with asked (finding.Gap place name gap) f = record f { gap = true }
 found_with asked (finding.Files place run files) f = record f { file = true }
 found_with asked (finding.Lane counts) f = found_in asked counts f
+found_with asked (finding.Part counts) f = f
 found_with asked (finding.Fates name fates) f = f
 found_with asked (finding.Ranges name) f = f
 found_with asked (finding.Back name steps) f = f

@@ -11,7 +11,7 @@ use Rattle.ledger_rules.specs.declared.entry.Entry.{Entry}
 use Rattle.ledger_rules.specs.declared.left.Left.{Left}
 use Rattle.ledger_rules.specs.declared.line_request.LineRequest.{LineRequest}
 use Rattle.ledger_rules.specs.declared.reason.Reason.{Reason}
-use Rattle.ledger_rules.specs.declared.reason.Reason.TheVariants.{NotEntry, NoPacket, WrongSent, WrongReply, WrongResponse, SerialNotAbove, UnknownLane, RecordTwice, WrongWords, WrongSum}
+use Rattle.ledger_rules.specs.declared.reason.Reason.TheVariants.{NotEntry, NoPacket, WrongSent, WrongRequest, WrongReply, WrongResponse, SerialNotAbove, UnknownLane, RecordTwice, WrongWords, WrongSum}
 use Rattle.ledger_rules.specs.declared.tally.Gap.{Gap}
 use Rattle.ledger_rules.specs.declared.tally.Tally.{Tally}
 use Rattle.rad_audit.specs.Facts.{number_at, value_at}
@@ -58,6 +58,7 @@ abbrev pub IsWrongEntry : Entry → Option (List ℕ) → Option (List ℕ) → 
 IsWrongEntry e home client old was NotEntry = ⊥
 IsWrongEntry e home client old was NoPacket = IsWrong e home client (Some old.next) (IsKnown was.numbers e.about.number) NoPacket
 IsWrongEntry e home client old was WrongSent = IsWrong e home client (Some old.next) (IsKnown was.numbers e.about.number) WrongSent
+IsWrongEntry e home client old was WrongRequest = IsWrong e home client (Some old.next) (IsKnown was.numbers e.about.number) WrongRequest
 IsWrongEntry e home client old was WrongReply = IsWrong e home client (Some old.next) (IsKnown was.numbers e.about.number) WrongReply
 IsWrongEntry e home client old was WrongResponse = IsWrong e home client (Some old.next) (IsKnown was.numbers e.about.number) WrongResponse
 IsWrongEntry e home client old was SerialNotAbove = IsWrong e home client (Some old.next) (IsKnown was.numbers e.about.number) SerialNotAbove
@@ -83,6 +84,7 @@ abbrev pub IsWrongLeft : Left → Option (List ℕ) → Account → Reason → T
 IsWrongLeft left client was NotEntry = ⊥
 IsWrongLeft left client was NoPacket = IsWronglyLeft left client ⊤ (IsKnown was.numbers left.about.number) NoPacket
 IsWrongLeft left client was WrongSent = IsWronglyLeft left client ⊤ (IsKnown was.numbers left.about.number) WrongSent
+IsWrongLeft left client was WrongRequest = ⊥
 IsWrongLeft left client was WrongReply = ⊥
 IsWrongLeft left client was WrongResponse = ⊥
 IsWrongLeft left client was SerialNotAbove = ⊥

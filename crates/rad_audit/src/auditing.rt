@@ -447,6 +447,9 @@ fn tell_lane<W: Write>(report: &mut Report<'_, W>, run: &Run, lane: &Lane) -> Re
     let counts = LaneCounts::of(run, lane);
     let name = counts.name;
     report.tell(Finding::Lane(counts))?;
+    if let Some(part) = Finding::of_part(counts) {
+        report.tell(part)?;
+    }
     if let Some(fates) = Finding::of_fates(name, lane) {
         report.tell(fates)?;
     }
@@ -479,6 +482,9 @@ fn take_end<W: Write>(
     place: LinePlace<'_>,
     end: &End<'_>,
 ) -> Result<(), Fault> {
+    if let Some(run) = runs.run(end.run) {
+        run.ended = true;
+    }
     for count in end.lanes.iter() {
         let Some(lane) = runs.lane(end.run, count.lane) else {
             report.tell(Finding::Wrong(place, Reason::UnknownLane))?;

@@ -1,6 +1,6 @@
 //! What is found, and its printed line.
 
-ghost use Rattle.std.specs.Prelude.{◌≡◌, IfErr};
+ghost use Rattle.std.specs.Prelude.{◌≡◌, [], if◌then◌else◌, IfErr};
 ghost use Rattle.rad_audit.specs.declared.faults.Fault.TheVariants.{Output};
 ghost use Rattle.rad_audit.specs.Statuses.{is_contradicted as the_is_contradicted, is_missing as the_is_missing, is_open as the_is_open, is_unasked as the_is_unasked};
 
@@ -45,6 +45,8 @@ pub enum Finding<'a> {
     Files(LinePlace<'a>, u64, Gap),
     /// What a lane has.
     Lane(LaneCounts<'a>),
+    /// Why a lane is only a part of what its run had, or of what can be judged.
+    Part(LaneCounts<'a>),
     /// What became of the requests that a lane accepted.
     Fates(LaneName<'a>, FateCounts),
     /// The numbers of a lane are of more ranges than are kept.
@@ -80,6 +82,8 @@ pub struct LaneCounts<'a> {
     pub late: bool,
     /// Whether a file of the run begins without a sum.
     pub bare: bool,
+    /// Whether a line ends the run that does not say how many requests the lane accepted.
+    pub uncounted: bool,
     /// How many entries are right.
     pub entries: u64,
     /// How many of these, and of the lines of requests that were left, were not judged, or not all of them.
@@ -96,7 +100,8 @@ struct BackSteps(u64);
 pub struct Asked {
     /// Runs that begin before what is there.
     pub from: bool,
-    /// These, and what is judged without a sum, the secret of a home server or of a client, or a line that is left out.
+    /// These, and what is judged without a sum, the counts of the end, the secret of a home server or of a client, or a line that is
+    /// left out.
     pub partial: bool,
     /// All runs before the last one, which are a fault if they are missing.
     pub all: bool,
@@ -158,7 +163,11 @@ impl Findings {
                 run: self.run || asked.all,
                 ..self
             },
-            Finding::Torn(_) | Finding::Fates(..) | Finding::Ranges(_) | Finding::Back(..) => self,
+            Finding::Torn(_)
+            | Finding::Part(_)
+            | Finding::Fates(..)
+            | Finding::Ranges(_)
+            | Finding::Back(..) => self,
         }
     }
 
@@ -216,7 +225,7 @@ impl<'a> LaneName<'a> {
 }
 
 impl<'a> LaneCounts<'a> {
-    ghost use Rattle.std.specs.Prelude.{◌≡◌, ℕ, List, not, ◌||◌, ◌==◌, IsTrue, string_bytes};
+    ghost use Rattle.std.specs.Prelude.{◌≡◌, ℕ, List, not, is_some, ◌&&◌, ◌||◌, ◌==◌, IsTrue, string_bytes};
     ghost use Rattle.ledger_rules.specs.Accounting.{JudgesLane};
     ghost use Rattle.ledger_rules.specs.Counting.{Counts};
     ghost use Rattle.ledger_rules.specs.Numbers.{Keeps};
@@ -228,16 +237,19 @@ impl<'a> LaneCounts<'a> {
         ensures counts { (result.first ≡ lane.now.tally.first) × (result.entries ≡ lane.now.tally.entries) × (result.not_judged ≡ lane.now.not_judged) }
         ensures late { result.late ≡ (not (run.now.files.first == 0) || not (lane.now.tally.first == 0)) }
         ensures bare { result.bare ≡ run.now.chain.bare }
-        ensures verdict { (serials : List ℕ) (numbers : List ℕ) → Counts lane.now.tally serials → Keeps lane.now.account.numbers numbers → JudgesLane lane.now.tally lane.now.account lane.now.ending (IsTrue (result.late || (result.bare || not (lane.now.not_judged == 0)))) serials numbers result.verdict }
+        ensures uncounted { result.uncounted ≡ (run.now.ended && not (is_some lane.now.account.told)) }
+        ensures verdict { (serials : List ℕ) (numbers : List ℕ) → Counts lane.now.tally serials → Keeps lane.now.account.numbers numbers → JudgesLane lane.now.tally lane.now.account lane.now.ending (IsTrue (result.late || (result.bare || (result.uncounted || not (lane.now.not_judged == 0))))) serials numbers result.verdict }
     {
         let late = run.files.begin_late() || lane.tally.first() != 0;
         let bare = run.chain.is_bare();
-        let part = late || (bare || lane.not_judged != 0);
+        let uncounted = run.ended && lane.account.told().is_none();
+        let part = late || (bare || (uncounted || lane.not_judged != 0));
         LaneCounts {
             name: LaneName::of(run.run, lane),
             first: lane.tally.first(),
             late,
             bare,
+            uncounted,
             entries: lane.tally.entries(),
             not_judged: lane.not_judged,
             verdict: lane_verdict(&lane.tally, &lane.account, &lane.ending, part),
@@ -247,7 +259,19 @@ impl<'a> LaneCounts<'a> {
 
 impl<'a> Finding<'a> {
     ghost use Rattle.std.specs.Prelude.{◌≡◌, ◌==◌, if◌then◌else◌, None, Some, option_map};
-    ghost use Rattle.rad_audit.specs.declared.printing.Finding.TheVariants.{Back, Fates, Hidden};
+    ghost use Rattle.rad_audit.specs.declared.printing.Finding.TheVariants.{Back, Fates, Hidden, Part};
+    ghost use Rattle.rad_audit.specs.Statuses.{is_partial};
+
+    /// Returns why a lane is only a part, if it is.
+    pub fn of_part(counts: LaneCounts<'a>) -> Option<Finding<'a>>
+        ensures { result ≡ (if is_partial counts.entry then Some (Part counts.entry) else None) }
+    {
+        if counts.late || (counts.bare || (counts.uncounted || counts.not_judged != 0)) {
+            Some(Finding::Part(counts))
+        } else {
+            None
+        }
+    }
 
     /// Returns what became of the requests of a lane, if an end line counts them.
     pub fn of_fates(name: LaneName<'a>, lane: &Lane) -> Option<Finding<'a>>
@@ -367,7 +391,7 @@ fn is_unasked(asked: Asked, counts: LaneCounts<'_>) -> bool
     ensures { result ≡ the_is_unasked asked counts.entry }
 {
     (counts.late && !(asked.from || asked.partial))
-        || ((counts.bare || counts.not_judged != 0) && !asked.partial)
+        || ((counts.bare || (counts.uncounted || counts.not_judged != 0)) && !asked.partial)
 }
 
 impl fmt::Display for LinePlace<'_> {
@@ -413,6 +437,32 @@ impl fmt::Display for LaneCounts<'_> {
     }
 }
 
+/// The reasons why a lane is only a part: each is a word.
+#[derive(Clone, Copy)]
+struct PartReasons<'a>(LaneCounts<'a>);
+
+impl fmt::Display for PartReasons<'_> {
+    ghost use Rattle.std.specs.Prelude.{Some};
+    ghost use Rattle.rad_audit.specs.Printed.{reasons_text};
+
+    ghost output = { λ reasons. Some (reasons_text reasons.0) };
+
+    fn fmt<W: fmt::Write>(&self, f: &mut fmt::Formatter<W>) -> fmt::Result {
+        let counts = self.0;
+        let late = word_if(counts.late, " late");
+        let bare = word_if(counts.bare, " no-sum");
+        let uncounted = word_if(counts.uncounted, " no-counts");
+        let not_judged = word_if(counts.not_judged != 0, " not-judged");
+        write!(f, "part:{late}{bare}{uncounted}{not_judged}")
+    }
+}
+
+fn word_if(is_so: bool, word: &str) -> &str
+    ensures { result.now ≡ (if is_so then word.now else []) }
+{
+    if is_so { word } else { "" }
+}
+
 impl fmt::Display for BackSteps {
     ghost use Rattle.std.specs.Prelude.{Some};
     ghost use Rattle.rad_audit.specs.Printed.{steps_text};
@@ -442,6 +492,11 @@ impl fmt::Display for Finding<'_> {
             Finding::Lane(counts) => {
                 let name = counts.name;
                 write!(f, "{name} {counts}")
+            }
+            Finding::Part(counts) => {
+                let name = counts.name;
+                let reasons = PartReasons(counts);
+                write!(f, "{name} {reasons}")
             }
             Finding::Fates(name, fates) => {
                 let FateCounts {

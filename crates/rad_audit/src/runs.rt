@@ -43,6 +43,8 @@ pub struct Run {
     pub before: Option<NamedFile>,
     pub lanes: Vec<Lane>,
     pub chain: RunChain,
+    /// Whether a line that ends it was read.
+    pub ended: bool,
 }
 
 /// The runs, in the order in which the files name them.
@@ -93,6 +95,7 @@ impl Runs {
             before,
             lanes,
             chain: RunChain::new(),
+            ended: false,
         })?;
         Ok(())
     }

@@ -1,12 +1,12 @@
 -- Packets that are signed: each is right by its authenticator, and has the parts that it was made of.
 use Rattle.std.proofs.Common.{◌≡◌, ℕ, ◌+◌, ◌<◌, ◌≤◌, List, [], ◌∷◌, ◌++◌, length, set, take, drop, replicate, ◌/◌, ◌%◌, refl, sym, ap, ◌∙◌, lit<, length-append, append_assoc, arith}
-use Rattle.std.proofs.lemmas.List.{drop_at}
+use Rattle.std.proofs.lemmas.List.{append-nil, drop_at}
 use borrow.Rule.Slice.PartMut.{put_mid}
 use Rattle.md5.specs.Md5.{md5}
 use Rattle.rad_packet.specs.Attribute.{AreAttributes}
 use Rattle.rad_packet.specs.Packet.{AreOctets, IsPacketText, packet_text, code_of, identifier_of, authenticator_of, attribute_octets}
 use Rattle.rad_packet.proofs.Parts.{packet_text-is, text-is_parts, length-authenticator_of}
-use Rattle.rad_auth.specs.Authenticator.{request_authenticator, response_authenticator, IsRightRequest, IsRightResponse, accounting_request, accounting_response}
+use Rattle.rad_auth.specs.Authenticator.{request_authenticator, response_authenticator, IsRequestOf, IsRightRequest, IsRightResponse, accounting_request, accounting_response}
 use Rattle.rad_auth.proofs.Digests.{length-md5, AreOctets-md5}
 use Rattle.rad_auth.proofs.Packets.{authenticator_of-packet_text, attribute_octets-packet_text, length-packet_text}
 
@@ -169,3 +169,23 @@ accounting_request-signed text identifier secret digest p code d =
     ∙ ap (request_authenticator secret) parts
     ∙ request_authenticator-placed secret 4 identifier a (replicate 16 0) xs n refl in
     ap (λ t. put_mid 4 16 t digest) parts ∙ put_authenticator identifier a xs digest n ∙ ap (λ x. packet_text 4 identifier x xs) right
+
+-- What is compared with the digest of the parts of a request: it is the Authenticator that makes this request right, or it is another.
+module _ (identifier : ℕ) (authenticator attributes secret start digest : List ℕ) (sixteen : length authenticator ≡ 16)
+    (begun : start ≡ 4 ∷ identifier ∷ ((20 + length attributes) / 256) ∷ ((20 + length attributes) % 256) ∷ [])
+    (signed : digest ≡ md5 (start ++ replicate 16 0 ++ attributes ++ [] ++ secret)) where
+  request_authenticator-parts : digest ≡ request_authenticator secret (packet_text 4 identifier authenticator attributes)
+  unfolding request_authenticator
+  request_authenticator-parts =
+      signed
+      ∙ ap (λ xs. md5 (xs ++ secret)) (append-nil (start ++ replicate 16 0 ++ attributes))
+      ∙ ap (λ xs. md5 (xs ++ replicate 16 0 ++ attributes ++ secret)) begun
+      ∙ ap (λ xs. md5 (take 4 (packet_text 4 identifier authenticator attributes) ++ replicate 16 0 ++ xs ++ secret)) (sym (attribute_octets-packet_text 4 identifier authenticator attributes sixteen))
+
+  pub IsRequestOf-by : authenticator ≡ digest → IsRequestOf identifier authenticator attributes secret
+  unfolding IsRightRequest
+  IsRequestOf-by same = authenticator_of-packet_text 4 identifier authenticator attributes sixteen ∙ same ∙ request_authenticator-parts
+
+  pub IsRequestOf-digest : IsRequestOf identifier authenticator attributes secret → authenticator ≡ digest
+  unfolding IsRightRequest
+  IsRequestOf-digest is = sym (authenticator_of-packet_text 4 identifier authenticator attributes sixteen) ∙ is ∙ sym request_authenticator-parts

@@ -21,6 +21,11 @@ IsRightRequest secret text = authenticator_of text ≡ request_authenticator sec
 unfoldable pub IsRightResponse : List ℕ → List ℕ → List ℕ → Type 0
 IsRightResponse secret authenticator text = authenticator_of text ≡ response_authenticator secret authenticator text
 
+-- The Authenticator is the Request Authenticator, under this secret, of the Accounting-Request with this Identifier and these
+-- attributes.
+abbrev pub IsRequestOf : ℕ → List ℕ → List ℕ → List ℕ → Type 0
+IsRequestOf identifier authenticator attributes secret = IsRightRequest secret (packet_text 4 identifier authenticator attributes)
+
 -- The Accounting-Request with this Identifier and these attributes, signed under this secret.
 unfoldable pub accounting_request : ℕ → List ℕ → List ℕ → List ℕ
 accounting_request identifier attributes secret =

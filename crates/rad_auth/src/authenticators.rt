@@ -1,13 +1,14 @@
 //! Request and Response Authenticators (RFC 2866 section 3).
 
-ghost use Rattle.std.specs.Prelude.{◌≡◌, ◌≤◌, ◌++◌, ◌↔◌, length, take, drop, IsTrue};
+ghost use Rattle.std.specs.Prelude.{◌≡◌, ◌≤◌, ◌/◌, ◌%◌, ◌++◌, ◌↔◌, [], ◌∷◌, length, take, drop, IsTrue};
 ghost use Rattle.md5.specs.Md5.{md5};
 ghost use Rattle.rad_packet.specs.Packet.{IsPacketText, attribute_octets, code_of, identifier_of, packet_text};
-ghost use Rattle.rad_auth.specs.Authenticator.{IsRightRequest, IsRightResponse, accounting_request, request_authenticator, response_authenticator};
+ghost use Rattle.rad_auth.specs.Authenticator.{IsRequestOf, IsRightRequest, IsRightResponse, accounting_request, request_authenticator, response_authenticator};
 
+use crate::ACCOUNTING_REQUEST;
 use crate::secret::Secret;
 use md5::{Digest, Md5};
-use rad_packet::{Datagram, PacketRef};
+use rad_packet::{Datagram, HEADER_LENGTH, PacketRef};
 
 /// The zeros that are hashed in place of a Request Authenticator (RFC 2866 section 3).
 pub(crate) const NO_AUTHENTICATOR: [u8; 16] = [0; 16];
@@ -39,6 +40,25 @@ pub fn check_request(packet: &PacketRef<'_>, secret: &Secret) -> bool
     packet.authenticator() == request_authenticator(packet, secret)
 }
 
+/// Whether this is the Authenticator of an Accounting-Request with this Identifier and these attributes that is valid under a
+/// secret (RFC 2866 section 3). Hashes the request once.
+pub fn is_request_of(
+    identifier: u8,
+    authenticator: &[u8; 16],
+    attributes: &[u8],
+    secret: &Secret,
+) -> bool
+    requires { length attributes.now ≤ 4076 }
+    ensures { IsTrue result ↔ IsRequestOf identifier authenticator.now attributes.now secret.now }
+{
+    let start = packet_start(
+        ACCOUNTING_REQUEST,
+        identifier,
+        HEADER_LENGTH + attributes.len(),
+    );
+    *authenticator == digest_of_parts(&start, &NO_AUTHENTICATOR, attributes, &[], secret)
+}
+
 /// Whether a packet's Response Authenticator is valid under a secret, for a request with this Authenticator.
 /// Hashes the packet once.
 #[tactic(auto, unfolding(crate::specs::Authenticator::IsRightResponse))]
@@ -68,6 +88,14 @@ pub(crate) fn sign_datagram(datagram: &mut Datagram, authenticator: &[u8; 16], s
 {
     let signature = digest(datagram.bytes(), authenticator, secret);
     datagram.set_authenticator(signature);
+}
+
+/// Returns the octets before the Authenticator of a packet that has `count` octets: Code, Identifier and Length.
+pub(crate) fn packet_start(code: u8, identifier: u8, count: usize) -> [u8; 4]
+    requires { count ≤ 4096 }
+    ensures { result ≡ code ∷ identifier ∷ (count / 256) ∷ (count % 256) ∷ [] }
+{
+    [code, identifier, (count / 256) as u8, (count % 256) as u8]
 }
 
 /// Returns the MD5 digest of a packet, with these octets in place of its Authenticator, followed by the secret.

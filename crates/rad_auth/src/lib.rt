@@ -21,7 +21,8 @@ mod secret;
 mod status;
 
 pub use authenticators::{
-    check_request, check_response, request_authenticator, response_authenticator, sign,
+    check_request, check_response, is_request_of, request_authenticator, response_authenticator,
+    sign,
 };
 pub use buffer::Buffer;
 pub use forwarding::forward;

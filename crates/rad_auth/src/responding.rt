@@ -13,7 +13,7 @@ ghost use Rattle.rad_auth.specs.Refusing.{RefusesReply, ReturnsItsMark};
 ghost use Rattle.rad_auth.specs.declared.mark.Mark.{Mark};
 ghost use Rattle.rad_auth.specs.declared.responding.ReplyFault.TheVariants.{MessageAuthenticatorHere};
 
-use crate::authenticators::{check_response, digest_of_parts};
+use crate::authenticators::{check_response, digest_of_parts, packet_start};
 use crate::mark::MARK_LENGTH;
 use crate::reply::{Reply, RequestHead};
 use crate::secret::Secret;
@@ -211,12 +211,7 @@ fn write_response(
 {
     let (before, after) = attributes_around(reply, mark);
     let count = HEADER_LENGTH + before.len() + after.len();
-    let start = [
-        ACCOUNTING_RESPONSE,
-        head.identifier,
-        (count / 256) as u8,
-        (count % 256) as u8,
-    ];
+    let start = packet_start(ACCOUNTING_RESPONSE, head.identifier, count);
     let signature = digest_of_parts(&start, &head.authenticator, before, after, client);
     let mut octets = Vec::with_capacity(alloc, count + room)?;
     octets.extend_from_slice(&start)?;

@@ -12,6 +12,7 @@ use Rattle.rad_realms.specs.Incoming.{Takes}
 use Rattle.rad_lane.specs.declared.outgoing.Outgoing.{Outgoing}
 use Rattle.locked_lanes.specs.declared.inlet.Inlet.{Inlet}
 use Rattle.rad_desk.specs.declared.wire.Delivery.{Delivery}
+use Rattle.locked_lanes.specs.Fates.{AnswersARecord}
 use Rattle.locked_lanes.specs.Inlet.{taken, SameInlet}
 use Rattle.rad_desk.specs.Traffic.{Event, arrived, departed, told, endpoint, noted, logged}
 use Rattle.rad_desk.specs.Calls.{Passes, IsQuiet, IsALook, IsSent, AreAtMost}
@@ -177,7 +178,7 @@ module _ (config : Configuration) where
       record {
         parts = part ∷ [];
         passed = one.is;
-        right = All-cons (IsRight config (length inlets)) part [] within (All-nil (IsRight config (length inlets)));
+        right = All-cons (IsRight config (length inlets)) part [] (within, one.answers) (All-nil (IsRight config (length inlets)));
         gave = gave_one 0 place place one.outgoing one.delivery inlets other now (omega arith) within same one.took;
       }
 
@@ -220,8 +221,8 @@ answer_after socket from asked moment octets answers =
 pub hands_none : (was is : Inlet) → SameInlet was is → taken is ≡ taken was → (old new : Option (List Event)) → new ≡ old → Passes (Hands was is) old new
 hands_none was is same took old new none = passes_none (Hands was is) old new (same, inl (took, refl)) none
 
-pub hands_one : (was is : Inlet) (outgoing : Outgoing) (octets : List ℕ) → SameInlet was is → taken is ≡ taken was ++ outgoing ∷ [] → octets ≡ outgoing.reply.response → (old new : Option (List Event)) → Passes (IsSent 0 (endpoint outgoing.client outgoing.port) octets) old new → Passes (Hands was is) old new
-hands_one was is outgoing octets same took response =
+pub hands_one : (was is : Inlet) (outgoing : Outgoing) (octets : List ℕ) → SameInlet was is → taken is ≡ taken was ++ outgoing ∷ [] → AnswersARecord outgoing → octets ≡ outgoing.reply.response → (old new : Option (List Event)) → Passes (IsSent 0 (endpoint outgoing.client outgoing.port) octets) old new → Passes (Hands was is) old new
+hands_one was is outgoing octets same took answers response =
     passes_widen (IsSent 0 (endpoint outgoing.client outgoing.port) octets) (Hands was is)
     (λ events sent. (
       same,
@@ -229,6 +230,7 @@ hands_one was is outgoing octets same took response =
         outgoing = outgoing;
         delivery = sent.delivery;
         took = took;
+        answers = answers;
         is = sent.is ∙ ap (λ l. departed 0 (endpoint outgoing.client outgoing.port) l sent.delivery ∷ []) response;
       }),
     ))

@@ -16,6 +16,7 @@ use Rattle.locked_lanes.specs.declared.report.Rest.{Rest}
 use Rattle.locked_lanes.specs.declared.report.Rest.TheVariants.{Known, Unknown}
 use Rattle.locked_lanes.specs.Fates.{marked_number}
 use Rattle.rad_desk.specs.declared.leaving.LeftRecord.{LeftRecord}
+use Rattle.rad_desk.specs.declared.ledger.LeftHead.{LeftHead}
 use Rattle.rad_lane.specs.declared.leftover.LeftState.{LeftState}
 use Rattle.rad_lane.specs.declared.leftover.LeftState.TheVariants as state
 
@@ -30,6 +31,19 @@ pub record Left : Type 0 where
   pub authenticator : List ℕ
   pub state : LeftState
   pub request : List ℕ
+
+-- A request of this head that came as these octets.
+abbrev pub left_of : LeftHead → List ℕ → Left
+left_of head octets = record {
+  lane = head.lane;
+  number = head.number;
+  client = head.client;
+  port = head.port;
+  identifier = head.identifier;
+  authenticator = head.authenticator;
+  state = head.state;
+  request = octets;
+}
 
 abbrev pub as_left : LeftRecord → Left
 as_left told = record {

@@ -16,7 +16,7 @@ use Rattle.rad_lane.specs.declared.accepting.Taken.TheVariants.{Again}
 use Rattle.locked_lanes.specs.declared.inlet.Inlet.{Inlet}
 use Rattle.rad_desk.specs.declared.wire.Delivery.{Delivery}
 use Rattle.locked_lanes.specs.Departures.{AcceptsLawfully, IsVerifiedResponse}
-use Rattle.locked_lanes.specs.Fates.{EachOnce}
+use Rattle.locked_lanes.specs.Fates.{AnswersARecord, EachOnce}
 use Rattle.locked_lanes.specs.Inlet.{taken, SameInlet}
 use Rattle.rad_desk.specs.Traffic.{Event, arrived, departed, told, endpoint}
 use Rattle.rad_desk.specs.Calls.{IsQuiet, IsALook}
@@ -101,22 +101,23 @@ pub record AnswerGoes (socket : ℕ) (from : Endpoint) (asked : Incoming) (event
 abbrev pub SendsAnAnswer : ℕ → Endpoint → Incoming → List Event → Type 0
 SendsAnAnswer socket from asked events = IsALook events ⊎ AnswerGoes socket from asked events
 
--- The inlet gave one response, and that was sent, and nothing else passed.
+-- The inlet gave one response, which answers a record, and that was sent, and nothing else passed.
 pub record HandsOne (old new : Inlet) (events : List Event) : Type 0 where
   pub outgoing : Outgoing
   pub delivery : Delivery
   pub took : taken new ≡ taken old ++ outgoing ∷ []
+  pub answers : AnswersARecord outgoing
   pub is : events ≡ events_of (given 0 outgoing delivery)
 
 abbrev pub Hands : Inlet → Inlet → List Event → Type 0
 Hands old new events = SameInlet old new × (((taken new ≡ taken old) × (events ≡ [])) ⊎ HandsOne old new events)
 
 -- What a valid part is: nothing was sent; or the octets answer what came; or the response is of one of the `inlets`
--- inlets.
+-- inlets, and answers a record of the client and port to which it is sent.
 abbrev pub IsRight : Configuration → ℕ → Part → Type 0
 IsRight config inlets (quiet events) = IsQuiet events
 IsRight config inlets (back socket from question moment octets delivery) = AnswersWhatCame config from question moment octets
-IsRight config inlets (given place outgoing delivery) = place < inlets
+IsRight config inlets (given place outgoing delivery) = (place < inlets) × AnswersARecord outgoing
 
 -- The responses that the inlet at a place gave, in order.
 abbrev pub given_in : ℕ → Part → List Outgoing

@@ -1,6 +1,6 @@
 -- What the worker of a lane does, as its wire sees it (RFC 2866 section 2.1, own). It is a sequence of parts. In each part a
 -- datagram is received, which the lane hears or does not hear, or the lane does one step, and what that gives is sent.
-use Rattle.std.specs.Prelude.{◌≡◌, ◌<◌, ⊤, ℕ, List, [], ◌∷◌, ◌⊎◌, All, slice_get, Option, Some, None, MatchOption, Result}
+use Rattle.std.specs.Prelude.{◌≡◌, ◌≢◌, ◌<◌, ⊤, ℕ, List, [], ◌∷◌, ◌++◌, ◌⊎◌, Bool, true, false, All, slice_get, Option, Some, None, MatchOption, Result}
 use Rattle.std.specs.List.{flat_map}
 use Rattle.rad_config.specs.declared.reading.address.Endpoint.{Endpoint}
 use Rattle.rad_realms.specs.Configuration.{HomeEntry, Configuration}
@@ -30,13 +30,13 @@ pub record IsPortOf (action : Action) (port : ℕ) : Type 0 where
   pub sends : slot_of action ≡ Some slot
   pub same_port : slot.port ≡ port
 
--- One step of a lawful book, with this lane's number and this home server's secret, gave the octets at this moment,
--- with these random octets, to be sent from this source port.
-pub record IsGiven (lane : ℕ) (secret : List ℕ) (moment : ℕ) (random : List ℕ) (port : ℕ) (octets : List ℕ) : Type 0 where
+-- One step of a lawful book, with this lane's number and this home server's secret and limits, gave the octets at this
+-- moment, with these random octets, to be sent from this source port.
+pub record IsGiven (lane : ℕ) (home : HomeEntry) (moment : ℕ) (random : List ℕ) (port : ℕ) (octets : List ℕ) : Type 0 where
   pub action : Action
   pub from_port : IsPortOf action port
   pub before : List ℕ
-  pub steps : StepsFor lane secret moment random action (record { before = before; after = octets })
+  pub steps : StepsFor lane home moment random action (record { before = before; after = octets })
 
 -- The octets were given to the socket of this source port, to be sent to the home server's address and port. Only if the
 -- home server does not have that port, nothing passed.
@@ -45,7 +45,7 @@ IsSentHome home port octets events =
     ((port < home.limits.ports) × IsSent port home.endpoint octets events) ⊎ ((¬ (port < home.limits.ports)) × (events ≡ []))
 
 -- A part of the work:
--- `unheard`, in which a datagram was received on a socket, from this address and port, and no moment was read for it;
+-- `unheard`, in which a datagram was received on a socket, from another address or port than the home server's;
 -- `heard`, in which these octets were received on a socket, from the home server's address and port, and this moment was
 -- read, at which the lane heard them, with this result;
 -- `rested`, in which this moment was read and these octets were drawn, and then at most a later moment was read;
@@ -65,13 +65,14 @@ events_of home (rested moment random later) = told moment ∷ drew random ∷ la
 events_of home (stepped moment random port octets delivery) =
     told moment ∷ drew random ∷ departed port home.endpoint octets delivery ∷ []
 
--- What a valid part is. The lane hears the octets that were received, whole, as coming to the source port of their socket.
+-- What a valid part is. What came from the home server is heard: the lane hears the octets that were received, whole, as coming to
+-- the source port of their socket.
 abbrev pub IsRight : ℕ → HomeEntry → Part → Type 0
-IsRight lane home (unheard socket from octets) = ⊤
+IsRight lane home (unheard socket from octets) = from ≢ home.endpoint
 IsRight lane home (heard socket octets moment result) = HearsLawfully lane moment socket octets result
 IsRight lane home (rested moment random later) = IsALook later
 IsRight lane home (stepped moment random port octets delivery) =
-    (port < home.limits.ports) × IsGiven lane home.secret moment random port octets
+    (port < home.limits.ports) × IsGiven lane home moment random port octets
 
 -- A part in which the worker receives, and one in which the lane does a step.
 abbrev pub IsReceipt : Part → Type 0
@@ -91,10 +92,29 @@ abbrev pub OncePassed : (Part → Type 0) → ℕ → HomeEntry → List Event �
 OncePassed Kind lane home events =
     (events ≡ []) ⊎ ((part : Part) × Kind part × (events ≡ events_of home part) × IsRight lane home part)
 
-pub record WorksForHome (lane : ℕ) (home : HomeEntry) (events : List Event) : Type 0 where
+-- At most one datagram was received from the home server, which the lane does not hear, since the worker is stopped.
+abbrev pub IsLeftUnheard : HomeEntry → List Event → Type 0
+IsLeftUnheard home events =
+    (events ≡ []) ⊎ ((socket : ℕ) × (octets : List ℕ) × (events ≡ arrived socket home.endpoint octets ∷ []))
+
+-- What passed where the worker received: one part, or none, if it goes on.
+abbrev pub ReceivesOnce : Bool → ℕ → HomeEntry → List Event → Type 0
+ReceivesOnce true lane home events = OncePassed IsReceipt lane home events
+ReceivesOnce false lane home events = IsLeftUnheard home events
+
+-- The worker works in valid parts.
+pub record WorksOn (lane : ℕ) (home : HomeEntry) (events : List Event) : Type 0 where
   pub parts : List Part
   pub passed : events ≡ flat_map (events_of home) parts
   pub right : All (IsRight lane home) parts
+
+-- It works so, and at the end it may be stopped when a datagram has just come.
+pub record WorksForHome (lane : ℕ) (home : HomeEntry) (events : List Event) : Type 0 where
+  pub before : List Event
+  pub last : List Event
+  pub passed : events ≡ before ++ last
+  pub works : WorksOn lane home before
+  pub stopped : IsLeftUnheard home last
 
 -- What the worker of a lane does, if the configuration has a home server for the lane; otherwise nothing passes.
 abbrev pub WorksOnLane : Configuration → ℕ → List Event → Type 0

@@ -3,7 +3,7 @@
 ghost use Rattle.std.specs.Prelude.{◌≡◌, ◌<◌, ◌≤◌, ◌*◌, ◌↔◌, IsTrue, None, MatchOption};
 ghost use Rattle.rad_desk.specs.Calls.{Passes, IsALook, AreAtMost};
 ghost use Rattle.rad_desk.specs.Keeping.{Keeps};
-ghost use Rattle.rad_desk.specs.Working.{WorksForHome, OncePassed, IsReceipt, IsStep, IsSentHome, slot_of, IsPortOf};
+ghost use Rattle.rad_desk.specs.Working.{WorksForHome, OncePassed, ReceivesOnce, IsStep, IsSentHome, slot_of, IsPortOf};
 
 use crate::gate::{Asked, Call, Gate, UpReason, Worker, WorkerReport};
 use crate::shift::{Arrival, Buffers, Shift};
@@ -77,7 +77,7 @@ fn hear<R: Wait, W: Wire, G: Gate>(
     home: &Home,
 ) -> bool
     requires { lane < shift.old.proxy.now }
-    ensures hears { Passes (OncePassed IsReceipt lane home.now) (W.log shift.old.wire.now) (W.log shift.new.wire.now) }
+    ensures hears { Passes (ReceivesOnce result lane home.now) (W.log shift.old.wire.now) (W.log shift.new.wire.now) }
     ensures keeps { Keeps shift.old shift.new }
 {
     let Some(arrival) = shift.receive(&mut buffers.octets) else {
@@ -180,10 +180,9 @@ fn step<R: Wait, W: Wire, G: Gate>(
     let asked = shift.gate.asks(lane);
     tell_standing(shift, asked, lane, now);
     let random = shift.wire.random();
-    let secret = home.secret();
     let stepped = shift
         .proxy
-        .step_for(shift.rt, lane, secret, now, random, &mut buffers.datagram);
+        .step_for(shift.rt, lane, home, now, random, &mut buffers.datagram);
     shift.made(Call::Step);
     let Some(stepped) = stepped else {
         return true;

@@ -3,11 +3,11 @@
 ghost use Rattle.std.specs.Prelude.{◌≡◌, List, [], ◌∷◌, ◌++◌, Option, None, option_and_then};
 ghost use Rattle.std.specs.Borrow.{ftrue};
 ghost use Rattle.rad_desk.specs.HandOver.{Handing, handed_at, kept_with};
-ghost use Rattle.rad_desk.specs.Leaving.{Left, as_left, left_with};
+ghost use Rattle.rad_desk.specs.Leaving.{Left, as_left, left_of, left_with};
 
 use crate::leaving::LeftRecord;
 use crate::wire::Wire;
-use rad_lane::{Counts, Outgoing};
+use rad_lane::{Counts, LeftState, Outgoing};
 use std::marker::Model;
 
 /// What keeps evidence of the responses that are handed over to it, and of the requests that are left at the end.
@@ -126,5 +126,61 @@ impl Handed {
         ensures { result.responses ≡ _before.now.responses ++ handed_at (W.log _wire.now) _outgoing.now ∷ [] }
     {
         Handed {}
+    }
+}
+
+/// The other list of a ledger: all requests that it was told as left so far. Only clauses see it, and it takes no memory.
+#[derive(Drop)]
+pub struct LeftList {
+    pub ghost requests: { List Left },
+}
+
+/// A request that is left, without its octets.
+#[derive(Clone, Copy)]
+pub(crate) struct LeftHead {
+    pub(crate) lane: u16,
+    pub(crate) number: u64,
+    pub(crate) client: [u8; 4],
+    pub(crate) port: u16,
+    pub(crate) identifier: u8,
+    pub(crate) authenticator: [u8; 16],
+    pub(crate) state: LeftState,
+}
+
+impl Model for LeftList {
+    ghost also_owns = { λ _. ftrue };
+}
+
+// It owns nothing.
+unsafe impl Send for LeftList {}
+
+impl LeftList {
+    /// Makes an empty list.
+    pub fn new() -> LeftList
+        ensures { result.requests ≡ [] }
+    {
+        LeftList {}
+    }
+
+    /// Adds a request that is told as left now.
+    pub fn add(&mut self, told: &LeftRecord<'_>)
+        ensures { self.new.requests ≡ self.old.requests ++ as_left told.now ∷ [] }
+    {
+        let head = LeftHead {
+            lane: told.lane,
+            number: told.number,
+            client: told.client,
+            port: told.port,
+            identifier: told.identifier,
+            authenticator: told.authenticator,
+            state: told.state,
+        };
+        *self = LeftList::with(self, &head, told.request);
+    }
+
+    fn with(_before: &LeftList, _head: &LeftHead, _request: &[u8]) -> LeftList
+        ensures { result.requests ≡ _before.now.requests ++ left_of _head.now _request.now ∷ [] }
+    {
+        LeftList {}
     }
 }

@@ -28,7 +28,7 @@ pub use front::{front_worker, front_worker_with};
 pub use gate::{Asked, Call, Gate, Go, Note, Repeat, UpReason, Worker, WorkerReport};
 pub use lanes::lane_worker;
 pub use leaving::{LeftRecord, tell_left};
-pub use ledger::{Handed, Ledger, NoLedger};
+pub use ledger::{Handed, Ledger, LeftList, NoLedger};
 pub use locked_lanes::{
     CloseFault, DeskFault, Inlet, LaneEnd, OpenFault, Origin, Proxy, Report, Rest, Session, Spent,
     Standing, Stepped, Told, open,

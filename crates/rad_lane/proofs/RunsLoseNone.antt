@@ -57,9 +57,9 @@ comes_late up now old new c = as_late old _ new c refl
 comes_late (down until next out) now old new c = as_late old _ new c.others refl
 
 -- What an event cuts off, followed by the requests accepted after it, is those before it followed by the new one.
-record KeepsAll (old : Book) (event : Event) (answer : GivenAnswer) (new : Book) : Type 0 where
-  kept : stamps_cut answer ++ new.accepted ≡ old.accepted ++ new_stamp old.last event answer
-  last : new.last ≡ last_after old.last event answer
+pub record KeepsAll (old : Book) (event : Event) (answer : GivenAnswer) (new : Book) : Type 0 where
+  pub kept : stamps_cut answer ++ new.accepted ≡ old.accepted ++ new_stamp old.last event answer
+  pub last : new.last ≡ last_after old.last event answer
 
 cuts_none : (old new : Book) (event : Event) (answer : GivenAnswer) → stamps_cut answer ≡ [] → new_stamp old.last event answer ≡ [] → IsAsLate old (last_after old.last event answer) new → KeepsAll old event answer new
 cuts_none old new event answer none no_new late = record {
@@ -67,7 +67,7 @@ cuts_none old new event answer none no_new late = record {
   last = late.1;
 }
 
-gives_keeps : (old new : Book) (event : Event) (answer : GivenAnswer) (d : Datagrams) → Gives old event answer d new → KeepsAll old event answer new
+pub gives_keeps : (old new : Book) (event : Event) (answer : GivenAnswer) (d : Datagrams) → Gives old event answer d new → KeepsAll old event answer new
 gives_keeps old new (accept request moment) (accepted (Ok (New number))) d a = record {
   kept = ap (λ (b : Book). b.accepted) a.3 ∙ ap (λ n. old.accepted ++ stamp_of n request.now (moment_in old moment) ∷ []) (sym a.2);
   last = ap (λ (b : Book). b.last) a.3;

@@ -362,6 +362,11 @@ module _ (window : ℕ) (wide : 1 ≤ window) where
         (grows.more ++ rest.2.0, rest.2.1 ∙ ap (λ (xs : List Stamp). xs ++ rest.2.0) (first.1.accepted ∙ grows.accepted) ∙ append_assoc old.accepted grows.more rest.2.0),
       )
 
+-- rounds leave a lawful book
+lawful_after : (n : ℕ) (old new : Book) → IsLawful old → RoundsWithRequests n old new → IsLawful new
+lawful_after zero old new lawful h = subst IsLawful (sym h) lawful
+lawful_after (suc n) old new lawful h = lawful_after n h.0 new h.1.round.hears.lawful h.2
+
 -- so many rounds take a queue
 up_is : (w : Watch) → is_up w ≡ true → w ≡ up
 up_is up is = refl
@@ -445,8 +450,8 @@ module _ (old : Book) (p : Apart old) (range : AreInRange old.setup.limits) wher
       let queued = grows.queue in
       record { drained = last.2; sent = empty_queue new.queued (omega (arith, left, queue, few, none, queued)); answered = none_counted new last.0.clear.none }
 
-  pub each_once : (n : ℕ) (first new : Book) (before : List Recorded) (r : Recorded) (after : List Recorded) → IsLawful old → CanGoOn old → old.queued ≡ before ++ r ∷ after → IsRound old first → RoundsWithRequests n first new → rounds_after (length before) width ≤ n → IsLawful new → IsAnsweredOnce new r.stamp
-  each_once n first new before r after lawful h queued round rounds enough lawful_new =
+  pub each_once : (n : ℕ) (first new : Book) (before : List Recorded) (r : Recorded) (after : List Recorded) → IsLawful old → CanGoOn old → old.queued ≡ before ++ r ∷ after → IsRound old first → RoundsWithRequests n first new → rounds_after (length before) width ≤ n → IsAnsweredOnce new r.stamp
+  each_once n first new before r after lawful h queued round rounds enough =
       let own = first_round old first p range round (goes_on old h) in
       let ready = ready_after first _ own.0 own.1 in
       let longer = ap length queued ∙ length-append before (r ∷ after) in
@@ -469,4 +474,4 @@ module _ (old : Book) (p : Apart old) (range : AreInRange old.setup.limits) wher
       last.2.1
       ∙ ap (λ (xs : List Stamp). xs ++ last.2.0) (own.1.accepted ∙ accepted_old)
       ∙ append_assoc front (r.stamp ∷ each (λ q. q.stamp) after) last.2.0 in
-      answered_once new lawful_new (none_counted new last.0.clear.none) front r.stamp rest accepted_new (omega (arith, reached, many, sent, front_long))
+      answered_once new (lawful_after n first new round.hears.lawful rounds) (none_counted new last.0.clear.none) front r.stamp rest accepted_new (omega (arith, reached, many, sent, front_long))

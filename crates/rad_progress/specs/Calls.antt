@@ -7,14 +7,16 @@ use Rattle.rad_lane.specs.declared.running.GivenAnswer.{GivenAnswer}
 use Rattle.rad_lane.specs.declared.running.GivenAnswer.TheVariants.{Step as stepped}
 use Rattle.rad_lane.specs.declared.running.Given.{Given}
 use Rattle.rad_lane.specs.Book.{Book}
+use Rattle.rad_lane.specs.Lawful.{IsLawful}
 use Rattle.rad_lane.specs.Runs.{Runs}
 
--- Calls of a lane, made in order, with their results.
+-- Calls of a lane, made in order, with their results. They leave a lawful book, as the type of a lane keeps it.
 pub record Calls (old new : Book) : Type 0 where
   pub before : List ℕ
   pub events : List Event
   pub gives : List Given
   pub runs : Runs old before events gives new
+  pub lawful : IsLawful new
 
 -- The call is a request's; or a step's, at this moment; or that of a datagram from the home server.
 abbrev pub IsRequest : Event → Type 0

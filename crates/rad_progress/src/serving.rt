@@ -25,7 +25,6 @@ pub fn served_in_rounds()
         → IsRound old first
         → RoundsWithRequests n first new
         → rounds_after (length before) old.setup.limits.window ≤ n
-        → IsLawful new
         → IsAnsweredOnce new r.stamp }
 {}
 

@@ -30,6 +30,7 @@ mod settling;
 mod stepping;
 mod trace;
 mod walk;
+mod world;
 
 use run::run_seed;
 use std::alloc::AllocGlobal;

@@ -35,15 +35,14 @@ impl Nases {
         }
     }
 
-    /// Returns the next datagram to send.
+    /// Returns the next datagram that is sent.
     pub fn send(&mut self, chance: &mut Chance, setting: &Setting) -> Result<Mail, Rule> {
         let repeats = if setting.is_hurried { 12 } else { 2 };
         if !self.letters.is_empty() && chance.is_one_in(repeats) {
             return self.repeat(chance);
         }
-        let mut mail = self.letter(chance, setting)?;
+        let mail = self.letter(chance, setting)?;
         self.keep(&mail)?;
-        spoil(&mut mail, chance)?;
         Ok(mail)
     }
 
@@ -114,8 +113,8 @@ impl Nases {
     }
 }
 
-/// Spoils one datagram in a few: cuts it short, flips a bit, appends padding, or has it come from a stranger.
-fn spoil(mail: &mut Mail, chance: &mut Chance) -> Result<(), Rule> {
+/// Spoils one datagram in a few on its way: cuts it short, flips a bit, appends padding, or has it come from a stranger.
+pub fn spoil(mail: &mut Mail, chance: &mut Chance) -> Result<(), Rule> {
     match chance.below(60) {
         0 => turn_a_bit(&mut mail.octets, chance),
         1 => mail.octets.truncate(chance.below(60) as usize),

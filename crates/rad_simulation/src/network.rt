@@ -1,4 +1,5 @@
-//! The home servers, and the network between them, the proxy and the NASes.
+//! The home servers, and the network between them, the proxy and the NASes. It loses, repeats, delays and reorders what is sent in
+//! either direction.
 
 use crate::chance::Chance;
 use crate::events::{Came, Gone, Mail};
@@ -7,6 +8,7 @@ use crate::nases::turn_a_bit;
 use crate::rules::Rule;
 use crate::setting::{Home, Setting};
 use crate::trace::Arrival;
+use crate::world::{Departed, World};
 use rad_auth::{ACCOUNTING_RESPONSE, MESSAGE_AUTHENTICATOR, PROXY_STATE, STATUS_SERVER, Secret};
 use rad_packet::{Datagram, PacketRef, read};
 use rad_realms::Endpoint;
@@ -29,16 +31,18 @@ pub struct Network {
     flying: Vec<Flying>,
     /// Whether each home server is dead.
     dead: [bool; 3],
+    pub world: World,
 }
 
 impl Network {
     /// Returns a network with no datagram on its way, in which all home servers are alive.
-    pub fn new(alloc: Global) -> Network {
-        Network {
+    pub fn new(alloc: Global, setting: &Setting) -> Result<Network, Rule> {
+        Ok(Network {
             alloc,
             flying: Vec::new(alloc),
             dead: [false; 3],
-        }
+            world: World::new(alloc, setting.homes.as_slice())?,
+        })
     }
 
     /// Has a home server die or come back.
@@ -112,7 +116,7 @@ impl Network {
         Ok(())
     }
 
-    /// Delivers what a lane sent to its home server, which replies, or does not, or replies late, twice or wrongly.
+    /// Delivers what a lane sent to its home server, unless it is lost.
     pub fn reach_home(
         &mut self,
         chance: &mut Chance,
@@ -121,28 +125,77 @@ impl Network {
         lane: u16,
         gone: &Gone,
     ) -> Result<(), Rule> {
-        let is_dead = self.dead.get(usize::from(lane)).copied().unwrap_or(false);
-        let is_lost = chance.strikes(setting.losses);
-        if (is_dead && !setting.is_hurried) || is_lost {
+        if chance.strikes(setting.losses) {
             return Ok(());
         }
-        let Some(home) = setting.homes.as_slice().get(usize::from(lane)) else {
+        match self.world.place_of(lane, gone.octets.as_slice()) {
+            Some(place) => self.deliver(chance, setting, now, lane, place),
+            None => Ok(()),
+        }
+    }
+
+    /// Delivers something that a lane sent at some time, perhaps once more.
+    pub fn deliver_late(
+        &mut self,
+        chance: &mut Chance,
+        setting: &Setting,
+        now: u64,
+    ) -> Result<(), Rule> {
+        let lane = (chance.below(setting.homes.len() as u64) & 3) as u16;
+        let place = chance.below(self.world.sent(lane) as u64) as usize;
+        self.deliver(chance, setting, now, lane, place)
+    }
+
+    /// Has a home server receive what stands at this place of what its lane sent. It replies, or does not, or replies late, twice or
+    /// wrongly.
+    fn deliver(
+        &mut self,
+        chance: &mut Chance,
+        setting: &Setting,
+        now: u64,
+        lane: u16,
+        place: usize,
+    ) -> Result<(), Rule> {
+        let is_dead = self.dead.get(usize::from(lane)).copied().unwrap_or(false);
+        if is_dead && !setting.is_hurried {
+            return Ok(());
+        }
+        let Some(departed) = self.world.departed(lane, place) else {
             return Ok(());
         };
-        let Ok(sent) = read(gone.octets.as_slice()) else {
+        let made = reply_of(self.alloc, departed, lane, chance, setting)?;
+        let Some(mut mail) = made else {
             return Ok(());
         };
-        let reply = reply_to(&sent, home, chance, setting);
-        let mut mail = Mail {
-            from: gone.to,
-            socket: gone.socket,
-            octets: reply.bytes().to_vec(self.alloc)?,
-        };
+        self.world.receives(lane, place)?;
+        self.world.replies(lane, place, mail.octets.as_slice())?;
         if !setting.is_hurried {
             spoil(&mut mail, chance)?;
         }
         self.carry(chance, setting, now, Some(lane), mail)
     }
+}
+
+/// Returns the reply of a lane's home server to a datagram, if that is a packet.
+fn reply_of(
+    alloc: Global,
+    departed: &Departed,
+    lane: u16,
+    chance: &mut Chance,
+    setting: &Setting,
+) -> Result<Option<Mail>, Rule> {
+    let Some(home) = setting.homes.as_slice().get(usize::from(lane)) else {
+        return Ok(None);
+    };
+    let Ok(sent) = read(departed.octets.as_slice()) else {
+        return Ok(None);
+    };
+    let reply = reply_to(&sent, home, chance, setting);
+    Ok(Some(Mail {
+        from: departed.to,
+        socket: departed.socket,
+        octets: reply.bytes().to_vec(alloc)?,
+    }))
 }
 
 /// Returns the right reply to a packet, without other attributes than its Proxy-States.
@@ -221,6 +274,7 @@ fn delay(chance: &mut Chance, setting: &Setting) -> u64 {
         return 0;
     }
     match chance.below(20) {
+        0 if chance.is_one_in(4) => chance.below(300_000),
         0 => chance.below(5000),
         1..=4 => chance.below(400),
         5..=10 => chance.below(30),

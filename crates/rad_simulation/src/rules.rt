@@ -110,6 +110,14 @@ impl Rule {
 
     pub const DRAIN: Rule = Rule("a drain tells how many requests were accepted until then");
 
+    pub const SENT_ALIKE: Rule = Rule("what a lane sends for one request has the same octets");
+
+    pub const ACKNOWLEDGED: Rule = Rule(
+        "a NAS is answered only for what a home server received, and with what it replied",
+    );
+
+    pub const TOLD: Rule = Rule("what a NAS is told is valid for something that it asked");
+
     pub const SETTLES: Rule = Rule(
         "at one moment a lane takes no more steps than its window, and one",
     );

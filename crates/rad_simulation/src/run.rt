@@ -6,7 +6,7 @@ use crate::ending::compare_end;
 use crate::events::TraceEvent;
 use crate::front_turn::Books;
 use crate::lane_turn::lane_turn;
-use crate::nases::Nases;
+use crate::nases::{Nases, spoil};
 use crate::network::Network;
 use crate::planning::Plan;
 use crate::rules::Rule;
@@ -82,13 +82,14 @@ fn begin(alloc: Global, seed: u64) -> Result<Run, Rule> {
     let mut chance = Chance::new(seed);
     let setting = Setting::draw(alloc, &mut chance)?;
     let books = books_of(alloc, &setting)?;
+    let network = Network::new(alloc, &setting)?;
     Ok(Run {
         alloc,
         chance,
         setting,
         books,
         nases: Nases::new(alloc),
-        network: Network::new(alloc),
+        network,
         trace: Trace::new(alloc),
         clock: 0,
         turns: 0,
@@ -195,11 +196,15 @@ impl Run {
         self.play(rt, served, inlets, plan)
     }
 
-    /// Has a NAS send something, and a home server die or come back, by chance.
+    /// Has a NAS send something, a datagram come late to its home server, and a home server die or come back, by chance.
     fn happen(&mut self) -> Result<(), Rule> {
         let sends = if self.setting.is_hurried { 1 } else { 3 };
         if self.chance.is_one_in(sends) {
             self.have_nas_send()?;
+        }
+        if self.chance.is_one_in(20) {
+            self.network
+                .deliver_late(&mut self.chance, &self.setting, self.clock)?;
         }
         if self.chance.is_one_in(40) {
             self.network.turn_over(&mut self.chance);
@@ -210,6 +215,8 @@ impl Run {
     fn have_nas_send(&mut self) -> Result<(), Rule> {
         let mut mail = self.nases.send(&mut self.chance, &self.setting)?;
         mail.socket = if self.chance.is_one_in(3) { 2 } else { 0 };
+        self.network.world.asks(&mail)?;
+        spoil(&mut mail, &mut self.chance)?;
         self.network
             .carry(&mut self.chance, &self.setting, self.clock, None, mail)
     }
@@ -252,7 +259,7 @@ impl Run {
         }
     }
 
-    /// Compares what a worker did, and delivers what it sent to the home servers.
+    /// Compares what a worker did with the world outside and with the rules, and delivers what it sent to the home servers.
     fn follow(
         &mut self,
         lane: Option<u16>,
@@ -260,6 +267,7 @@ impl Run {
         events: &[TraceEvent],
         tally: Tally,
     ) -> Result<(), Rule> {
+        self.show(lane, events)?;
         self.compare(lane, turns, events, tally)?;
         self.react(lane, events)
     }
@@ -303,6 +311,20 @@ impl Run {
         self.clock = wire.clock;
         let TraceWire { arrivals, .. } = wire;
         (tally, arrivals)
+    }
+
+    /// Shows what a worker sent to the world outside.
+    fn show(&mut self, lane: Option<u16>, events: &[TraceEvent]) -> Result<(), Rule> {
+        for event in events {
+            let TraceEvent::Went(gone) = event else {
+                continue;
+            };
+            match lane {
+                Some(lane) => self.network.world.departs(lane, gone)?,
+                None => self.network.world.tells(gone)?,
+            }
+        }
+        Ok(())
     }
 
     /// Compares what a worker did with the rules.

@@ -13,6 +13,13 @@ use rad_packet::read;
 use std::alloc::Global;
 use std::sync::Wait;
 
+/// A home server's right reply, and the datagram that it answers.
+#[derive(Drop)]
+struct RightReply {
+    asked: Vec<u8>,
+    mail: Mail,
+}
+
 impl Book {
     /// Returns whether there is nothing to do at a moment, until something comes.
     fn is_settled(&self, moment: u64) -> bool {
@@ -60,7 +67,7 @@ impl Book {
     }
 
     /// Returns the home server's right replies to all that is outstanding.
-    fn replies(&self, alloc: Global) -> Result<Vec<Mail>, Rule> {
+    fn replies(&self, alloc: Global) -> Result<Vec<RightReply>, Rule> {
         let mut replies = Vec::new(alloc);
         for out in self.out.as_slice() {
             if out.number.is_some() {
@@ -70,15 +77,18 @@ impl Book {
         Ok(replies)
     }
 
-    fn reply(&self, alloc: Global, out: &Out) -> Result<Mail, Rule> {
+    fn reply(&self, alloc: Global, out: &Out) -> Result<RightReply, Rule> {
         let Ok(sent) = read(out.octets.as_slice()) else {
             return Err(Rule::SERVES);
         };
         let reply = right_reply(&sent, &self.secret);
-        Ok(Mail {
-            from: self.endpoint,
-            socket: (out.pair / 256 & 3) as u16,
-            octets: reply.bytes().to_vec(alloc)?,
+        Ok(RightReply {
+            asked: out.octets.to_vec(alloc)?,
+            mail: Mail {
+                from: self.endpoint,
+                socket: (out.pair / 256 & 3) as u16,
+                octets: reply.bytes().to_vec(alloc)?,
+            },
         })
     }
 }
@@ -153,7 +163,10 @@ impl Run {
         self.lane_turns(rt, served, inlets, place, Came::Nothing)?;
         let replies = self.book(place)?.replies(self.alloc)?;
         for reply in replies {
-            self.lane_turns(rt, served, inlets, place, Came::Datagram(reply))?;
+            let RightReply { asked, mail } = reply;
+            let (lane, answer) = ((place & 0xffff) as u16, mail.octets.as_slice());
+            self.network.world.answers(lane, asked.as_slice(), answer)?;
+            self.lane_turns(rt, served, inlets, place, Came::Datagram(mail))?;
             self.turn(rt, served, inlets, None, Came::Nothing)?;
         }
         Ok(())

@@ -156,6 +156,14 @@ REASONS = {
     "mark-of-another-lane": spoiled(lambda line: signed_sent(line, mark(1, 1)), "WrongSent"),
     "mark-within-another-attribute": spoiled(lambda line: signed_sent(line, attribute(CLASS, b"x" + FIRST_MARK)), "WrongSent"),
     "another-record": spoiled(lambda line: changed(line, record=7), "WrongSent"),
+    # the request
+    "another-identifier": spoiled(lambda line: changed(line, identifier=9), "WrongRequest"),
+    "another-authenticator": spoiled(lambda line: changed(line, authenticator="00" * 16), "WrongRequest"),
+    "another-identifier-in-its-response-too": spoiled(lambda line: signed_response(changed(line, identifier=9), attribute(CLASS, b"CLS")), "WrongRequest"),
+    "another-authenticator-in-its-response-too": spoiled(
+        lambda line: signed_response(changed(line, authenticator="00" * 16), attribute(CLASS, b"CLS")), "WrongRequest"),
+    "sent-of-other-attributes": spoiled(lambda line: signed_sent(line, attribute(CLASS, b"x") + FIRST_MARK), "WrongRequest"),
+    "sent-of-no-attributes": spoiled(lambda line: signed_sent(line, FIRST_MARK), "WrongRequest"),
     # the reply
     "reply-is-spoiled": spoiled(lambda line: turned(line, "reply", 7), "WrongReply"),
     "reply-is-no-response": spoiled(lambda line: changed(line, reply=with_code(bytes.fromhex(line["reply"]), 4).hex()), "WrongReply"),
@@ -170,8 +178,6 @@ REASONS = {
     "response-by-another-secret": spoiled(lambda line: signed_response(line, attribute(CLASS, b"CLS"), secret=OTHER), "WrongResponse"),
     "response-with-the-mark": spoiled(lambda line: signed_response(line, FIRST_MARK + attribute(CLASS, b"CLS")), "WrongResponse"),
     "response-of-other-attributes": spoiled(lambda line: signed_response(line, attribute(CLASS, b"CLT")), "WrongResponse"),
-    "another-identifier": spoiled(lambda line: changed(line, identifier=9), "WrongResponse"),
-    "another-authenticator": spoiled(lambda line: changed(line, authenticator="00" * 16), "WrongResponse"),
     # the words
     "another-realm": spoiled(lambda line: changed(line, realm="example.com"), "WrongWords"),
     "no-realm": spoiled(lambda line: changed(line, realm=None), "WrongWords"),
@@ -187,6 +193,8 @@ REASONS = {
     "serial-before-words": spoiled(lambda line: changed(line, serial=0, session="S2"), "SerialNotAbove"),
     "lane-before-words": spoiled(lambda line: changed(line, run="0" * 16, session="S2"), "UnknownLane"),
     "no-packet-before-sent": spoiled(lambda line: changed(turned(line, "sent", 7), response="00"), "NoPacket"),
+    "sent-before-request": spoiled(lambda line: turned(changed(line, identifier=9), "sent", 7), "WrongSent"),
+    "request-before-reply": spoiled(lambda line: turned(changed(line, identifier=9), "reply", 7), "WrongRequest"),
     "sent-before-reply": spoiled(lambda line: turned(turned(line, "reply", 7), "sent", 7), "WrongSent"),
     "reply-before-response": spoiled(lambda line: turned(turned(line, "response", 7), "reply", 7), "WrongReply"),
     "response-before-serial": spoiled(lambda line: turned(changed(line, serial=0), "response", 7), "WrongResponse"),
@@ -234,10 +242,10 @@ def runs():
     told = [line for lane, (home, _) in enumerate(homes) for line in (counted(lane, home, 0, 1, "whole"), fates(1, 1, 0, lane, home))]
     yield "sixty-four-lanes", {"ledger": text(lines)}, told, 0, config(homes)
 
-    run = Run(2**64 - 1, [Lane(0x1234, "h1", HOME, 2**63 - 2, 0x0123456789ABCDEF), Lane(65535, "h2", OTHER, 0, 2**64 - 1)])
+    run = Run(2**64 - 1, [Lane(0x1234, "h1", HOME, 2**63 - 2, 0x0123456789ABCDEF), Lane(65535, "h2", OTHER, 1, 2**64 - 1)])
     lines = [run.begin(), run.entry(0), run.entry(0, status=2**32 - 1), changed(run.entry(1), port=65535), run.end()]
     yield "the-greatest-numbers", {"ledger": text(lines)}, [
-        counted(0x1234, "h1", 2**63 - 2, 2, "part", run=run.run), counted(65535, "h2", 0, 1, "whole", run=run.run)], 7
+        counted(0x1234, "h1", 2**63 - 2, 2, "part", run=run.run), counted(65535, "h2", 1, 1, "part", run=run.run)], 7
 
     run = one()
     first, octets = run.begin(), [*range(4059, -1, -63), 0]

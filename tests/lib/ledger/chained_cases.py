@@ -1,11 +1,71 @@
 """Ledgers with sums that Python makes, and what somebody may make of them, with what the auditor has to print of each and its status."""
 import hashlib
+import re
 
 from tests.lib import audit_model
+from tests.lib.ledger import exchanged_cases
 from tests.lib.ledger.cases import (HOME, NAME, REASONS, backward, changed, config, counted, fates, lines_of, one, runs, signed_response,
                                     told, two)
 from tests.lib.ledger.left_cases import LEFT_REASONS, accounts
 from tests.lib.ledgers import Lane, Run, chained, digest, hidden, sum_of, text
+
+
+COUNTED = re.compile(r"(run ([0-9a-f]{16}) lane ([0-9]+) \S+) from ([0-9]+) entries ([0-9]+) not judged ([0-9]+) (.+)")
+
+
+def lines_in(files):
+    """The lines of ledgers in these files."""
+    for content in files.values():
+        for line in content.split("\n")[:-1]:
+            try:
+                yield audit_model.read_line(line.encode("utf-8", "surrogateescape"))
+            except audit_model.NoLine:
+                pass
+
+
+def with_counts(end):
+    """An `end` line that says of each lane that all requests were answered, where it says nothing of them."""
+    lanes = [lane if "left" in lane else {**lane, "accepted": lane["entries"], "left": 0} for lane in end["lanes"]]
+    return {**end, "lanes": lanes}
+
+
+def with_fates(files, printed):
+    """What is printed where each `end` line has the counts that `with_counts` gives it."""
+    bare = {(line["run"].lower(), lane["lane"]): lane["entries"]
+            for line in lines_in(files) if line["type"] == "end" for lane in line["lanes"] if "left" not in lane}
+    for line in printed:
+        yield line
+        its = COUNTED.fullmatch(line)
+        if its and (its[2], int(its[3])) in bare:
+            yield f"{its[1]} accepted {bare[its[2], int(its[3])]} answered {its[5]} left 0"
+
+
+def with_reasons(files, printed):
+    """What is printed, and behind a lane that is only a part the reasons for that."""
+    found = list(lines_in(files))
+    for line in printed:
+        yield line
+        its = COUNTED.fullmatch(line)
+        if its:
+            begins, ends = ([it for it in found if (it["type"], it.get("run", "").lower()) == (kind, its[2])] for kind in ("begin", "end"))
+            told = [lane for end in ends for lane in end["lanes"] if lane["lane"] == int(its[3])]
+            reasons = {"late": its[4] != "0" or begins[0]["file"], "no-sum": any("sum" not in begin for begin in begins),
+                       "no-counts": ends and not (told and "left" in told[-1]), "not-judged": its[6] != "0"}
+            if any(reasons.values()):
+                yield " ".join([its[1], "part:", *(reason for reason, is_so in reasons.items() if is_so)])
+
+
+def counting(files):
+    """The files with the counts in each line that ends a run."""
+    return {name: "\n".join(map(counting_line, content.split("\n"))) for name, content in files.items()}
+
+
+def counting_line(line):
+    try:
+        found = audit_model.read_line(line.encode("utf-8", "surrogateescape"))
+    except audit_model.NoLine:
+        return line
+    return text([with_counts(found)])[:-1] if found["type"] == "end" else line
 
 
 def sealed(files):
@@ -78,6 +138,7 @@ def tampers():
     raised = [changed(lines[0], lanes=[{"lane": 0, "home": "h1", "serial": 2}]), *lines[3:]]
     yield "begin's-serial-raised", lines, raised, [counted(0, "h1", 2, 3, "part"), fates(5, 3, 0)], 7
     yield "begin-of-a-later-file", lines, [changed(lines[0], file=1), *lines[1:]], [counted(0, "h1", 0, 5, "part"), fates(5, 5, 0)], 7
+    yield "an-entry-and-the-counts-taken-out", lines, without(lines, 2, entries=4, accepted=None, left=None), [counted(0, "h1", 0, 4, "part")], 7
     yield "another-version", lines, [changed(lines[0], version="9"), *lines[1:]], whole, 0
     yield "a-begin-of-another-time", lines, [changed(lines[0], time="2026-01-30T00:00:00.000Z"), *lines[1:]], whole, 0
     for key, value in {"port": 1, "time": "2026-01-31T00:00:00.751Z"}.items():
@@ -115,10 +176,28 @@ def tampers():
     yield "a-state-edited", lines, [*lines[:3], changed(lines[3], state="untaken"), *lines[4:]], [counted(0, "h1", 0, 2, "whole"), fates(4, 2, 2)], 0
 
 
+def uncounted():
+    """Runs with sums whose `end` line lacks something of what was counted, which no sum binds."""
+    run = two()
+    lines = chained([run.begin(), run.entry(0), run.entry(1), run.entry(0), run.end_of_all()])
+    first, second = lines[-1]["lanes"]
+    bare = {"lane": 1, "entries": 1}
+    whole, its = [counted(0, "h1", 0, 2, "whole"), fates(2, 2, 0)], {"ledger": text([*lines[:-1], changed(lines[-1], lanes=[first, bare])])}
+    yield "counts-taken-out-of-the-end", its, [*whole, counted(1, "h2", 0, 1, "part")], 7
+    yield "counts-taken-out-of-the-end, as asked", its, [*whole, counted(1, "h2", 0, 1, "part")], 0, config(), ["--partial"]
+    without_lane = {"ledger": text([*lines[:-1], changed(lines[-1], lanes=[first])])}
+    yield "a-lane-taken-out-of-the-end", without_lane, [*whole, counted(1, "h2", 0, 1, "open")], 7
+    none = {"ledger": text([*lines[:-1], changed(lines[-1], lanes=[])])}
+    yield "all-lanes-taken-out-of-the-end", none, [counted(0, "h1", 0, 2, "open"), counted(1, "h2", 0, 1, "open")], 7
+    twice = {"ledger": text([*lines[:-1], changed(lines[-1], lanes=[first, bare]), lines[-1]])}
+    yield "an-end-without-counts-before-the-other", twice, [
+        wrong("ledger:6"), *whole, counted(1, "h2", 0, 1, "contradicted"), fates(1, 1, 0, 1, "h2")], 5
+
+
 def tampered():
     """Each of these with the sums as they were, which the last one contradicts; with all sums written anew, of which the pages say that it
     is not found; and this beside the last sum, which somebody kept."""
-    for name, before, lines, printed, status, *rest in tampers():
+    for name, before, lines, printed, status, *rest in [*tampers(), *exchanged_cases.moved()]:
         last = len(lines)
         yield f"{name}, beside its sums", {"ledger": text(lines)}, with_wrong(last, printed), 5, *rest
         anew = {"ledger": text(chained([{key: value for key, value in line.items() if key != "sum"} for line in lines]))}
@@ -147,7 +226,7 @@ def between_runs():
     yield "a-run-under-another-name, all sums anew", sealed({"ledger": text(renamed)}), of_run(NAME + 1, whole), 0
     forged = [changed(line, home="h9") if "home" in line else line for line in lines]
     forged[0] = changed(lines[0], lanes=[{**lines[0]["lanes"][0], "home": "h9"}])
-    forged[1:4] = [changed(line, reply=line["sent"], response=line["sent"]) for line in forged[1:4]]
+    forged[1:4] = [changed(line, reply=line["sent"]) for line in forged[1:4]]
     yield "a-ledger-of-an-unknown-home-server", sealed({"ledger": text(forged)}), [counted(0, "h9", 0, 3, "part", 3), fates(3, 3, 0, 0, "h9")], 7
 
 
@@ -274,11 +353,11 @@ def chains():
                        "of-a-short-sum": {"type": "hidden", "sum": "1" * 62}}.items():
         yield f"a-line-left-out-{name}", hides(line), ["ledger:3: NotEntry", gap, wrong("ledger:5"), *left_out[1:3]], 5
     run = two()
-    its = chained([run.begin(), *(run.entry(place) for place in (0, 1, 0, 1, 1)), run.end()])
+    its = chained([run.begin(), *(run.entry(place) for place in (0, 1, 0, 1, 1)), run.end_of_all()])
     handed = [hidden(line) if line.get("home") == "h2" else line for line in its]
     yield "the-lines-of-a-home-server-left-out", {"ledger": text(handed)}, [
-        f"ledger:7: run {NAME:016x} lane 1 h2 gap 0 to 2", counted(0, "h1", 0, 2, "whole"), counted(1, "h2", 0, 0, "gap 0 to 2"),
-        f"run {NAME:016x} hidden 3"], 3
+        f"ledger:7: run {NAME:016x} lane 1 h2 gap 0 to 2", counted(0, "h1", 0, 2, "whole"), fates(2, 2, 0),
+        counted(1, "h2", 0, 0, "gap 0 to 2"), fates(3, 0, 0, 1, "h2"), f"run {NAME:016x} hidden 3"], 3
     yield "all-left-out", {"ledger": text([lines[0], *map(hidden, lines[1:])])}, [counted(0, "h1", 0, 0, "open"), f"run {NAME:016x} hidden 4"], 7
     more = {"ledger": text(chained([*lines[:2], hidden(lines[2]), *lines[2:]]))}
     yield "a-line-more-that-is-left-out", more, [*whole, f"run {NAME:016x} hidden 1"], 7
@@ -341,12 +420,21 @@ def chains():
     yield "a-sum-of-a-run-without-sums", {"ledger": text(lines_of(one(), 2))}, [counted(0, "h1", 0, 2, "part"), wrong(words[0])], 5, ["--sum", words[0]]
 
 
-def all_cases():
+def written_cases():
     """All cases: name, files, what is printed, status, configuration, and the words before it."""
-    plain = [*((name, *case) for name, case in {**REASONS, **LEFT_REASONS}.items()), *runs(), *accounts()]
-    for name, files, lines, status, *rest in plain:
+    for name, files, lines, status, *rest in [
+            *((name, *case) for name, case in {**REASONS, **LEFT_REASONS}.items()), *runs(), *exchanged_cases.unjudged()]:
+        yield name, sealed(counting(files)), with_fates(files, lines), status, *rest, *(config(), [])[len(rest) :]
+    for name, files, lines, status, *rest in accounts():
         yield name, sealed(files), lines, status, *rest, *(config(), [])[len(rest) :]
     for name, files, lines, status, *words in chains():
         yield name, files, lines, status, config(), words[0] if words else []
-    for name, files, lines, status, *rest in [*tampered(), *between_runs(), *runs_before(), *without_sums()]:
+    for name, files, lines, status, *rest in [
+            *tampered(), *between_runs(), *exchanged_cases.between_runs(), *runs_before(), *without_sums(), *uncounted()]:
         yield name, files, lines, status, *rest, *(config(), [])[len(rest) :]
+
+
+def all_cases():
+    """All cases, with the reasons of each part."""
+    for name, files, lines, *rest in written_cases():
+        yield name, files, list(with_reasons(files, lines)), *rest

@@ -72,7 +72,7 @@ def accounts():
             counted(0, "h1", 0, 3, "contradicted"), fates(6, 3, 3)], 9
     yield "two-ends-of-which-one-counts-no-requests", {"ledger": text([*lines, told(lines, accepted=None, left=None)[-1]])}, [
         counted(0, "h1", 0, 3, "contradicted")], 9
-    yield "left-and-an-end-of-before", {"ledger": text(told(lines, accepted=None, left=None))}, [counted(0, "h1", 0, 3, "whole")], 0
+    yield "left-and-an-end-of-before", {"ledger": text(told(lines, accepted=None, left=None))}, [counted(0, "h1", 0, 3, "part")], 7
     yield "an-end-that-says-half", {"ledger": text(told(lines, left=None))}, ["ledger:8: NotEntry", counted(0, "h1", 0, 3, "open")], 5
     client = config(client="192.0.2.11")
     yield "left-by-an-unknown-client", {"ledger": text([*lines[:5], turned(lines[5], "request", 30), *lines[6:]])}, [
@@ -117,7 +117,7 @@ def accounts():
         lines = told([*lines_of(run, 2, False), run.end_of_all()], accepted=accepted)
         yield f"from-5-with-{accepted}-accepted", {"ledger": text(lines)}, [counted(0, "h1", 5, 2, "unaccounted"), fates(accepted, 2, 0)], 3, config(), ["--from"]
     run = Run(NAME, [Lane(0, "h1", HOME, record=2**64 - 1)])
-    yield "the-greatest-number-twice", {"ledger": text([run.begin(), *[run.left()] * 2, run.end()])}, ["ledger:3: RecordTwice", counted(0, "h1", 0, 0, "whole")], 5
+    yield "the-greatest-number-twice", {"ledger": text([run.begin(), *[run.left()] * 2, run.end()])}, ["ledger:3: RecordTwice", counted(0, "h1", 0, 0, "part")], 5
 
     run = one()
     every_second = [run.begin()]
@@ -125,7 +125,7 @@ def accounts():
         run.lanes[0].record = number
         every_second.append(run.left())
     end, more = run.end(), f"run {NAME:016x} lane 0 h1 more than 4096 ranges"
-    yield "4096-ranges", {"ledger": text([*every_second[:4097], end])}, [counted(0, "h1", 0, 0, "whole")], 0
+    yield "4096-ranges", {"ledger": text([*every_second[:4097], end])}, [counted(0, "h1", 0, 0, "part")], 7
     yield "4097-ranges", {"ledger": text([*every_second, end])}, [counted(0, "h1", 0, 0, "unaccounted"), more], 3
     run.lanes[0].record = 1
     between = run.left()

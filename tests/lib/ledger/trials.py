@@ -201,7 +201,7 @@ def read_line(file, line):
         raise AssertionError(f"{file.name} has a line that is no JSON: {line[:60]!r}") from fault
 
 
-REASONS = {"NotEntry", "NoPacket", "WrongSent", "WrongReply", "WrongResponse", "SerialNotAbove", "UnknownLane", "RecordTwice", "WrongWords", "WrongSum"}
+REASONS = {"NotEntry", "NoPacket", "WrongSent", "WrongRequest", "WrongReply", "WrongResponse", "SerialNotAbove", "UnknownLane", "RecordTwice", "WrongWords", "WrongSum"}
 
 
 class Steered:

@@ -15,8 +15,9 @@ use crate::waking::Notifiers;
 use crate::wires::{NotifiedWires, WireMaker, Wires, make_reader};
 use rad_addresses::LocalAddresses;
 use rad_console::{EndLine, ListeningLine, close_with};
-use rad_desk::{NoLedger, OpenFault, open};
+use rad_desk::{NoLedger, OpenFault, Proxy, Worker, WorkerReport, open};
 use rad_realms::Config;
+use rad_tables::Moment;
 use std::alloc::Global;
 use std::io::{Read, Write};
 use std::net::Net;
@@ -249,10 +250,22 @@ where
         mut ledger,
         moment,
     } = front;
+    tell_standings(rt, &proxy, moment, gate);
     let end = close_with(alloc, proxy, inlets, moment, &mut ledger);
     outcome?;
     let end = end?;
     console.output.add(&end)?;
     console.output.finish(rt)?;
     Ok(end)
+}
+
+/// Reports the standing of each lane, once no worker changes it any more.
+fn tell_standings<R: Host, G: SharedGate>(rt: &R, proxy: &Proxy, moment: Moment, gate: &G) {
+    for lane in 0..proxy.lanes() {
+        let standing = proxy.standing(rt, lane);
+        gate.report(
+            Worker::Lane(lane),
+            &WorkerReport::Stands { moment, standing },
+        );
+    }
 }

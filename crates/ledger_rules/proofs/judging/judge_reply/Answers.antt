@@ -1,6 +1,5 @@
 use Rattle.std.proofs.Common.{◌≡◌, ◌≢◌, sym, ◌∙◌}
 use Rattle.std.proofs.lemmas.Slice.Eq.{bytes_eq-Decides}
-use Rattle.rad_auth.specs.Answers.{Answers}
 use Rattle.ledger_rules.proofs.Replies.{is_reply, is_response, is_no_response, other_octets}
 use Rattle.ledger_rules.proofs.judging.judge_reply.Goals.{in-Some-2, in-None}
 use Rattle.ledger_rules.proofs.judging.judge_reply.Goals as goal

@@ -1,6 +1,5 @@
-use Rattle.std.proofs.Common.{refl, subst, inl}
+use Rattle.std.proofs.Common.{refl, inl}
 use Rattle.rad_desk.specs.Calls.{IsALook}
-use Rattle.locked_lanes.specs.Departures.{StepsFor}
 use Rattle.rad_desk.specs.Working.{IsGiven, IsStep, OncePassed}
 use Rattle.rad_desk.proofs.CallsJoined.{passes_none}
 use Rattle.rad_desk.proofs.HomeWork.{part_rested, part_stepped}
@@ -20,13 +19,10 @@ returns-in_default-port_of-clause-steps g c =
 pub returns-clause-steps : goal.returns-clause-steps
 returns-clause-steps g c =
     let octets = c.step_for-stepped.new.datagram in
-    let gives : IsGiven c.args.lane c.args.home.now.secret c.now-now.result c.random-random.result c.in-Some-port_of.port octets = record {
+    let gives : IsGiven c.args.lane c.args.home.now c.now-now.result c.random-random.result c.in-Some-port_of.port octets = record {
       action = c.in-Some.stepped.action;
       from_port = c.in-Some-port_of.ensures;
       before = c.args.buffers.now.datagram;
-      steps =
-          subst (λ secret. StepsFor c.args.lane secret c.now-now.result c.random-random.result c.in-Some.stepped.action (record { before = c.args.buffers.now.datagram; after = octets }))
-          c.secret-secret.ensures
-          c.in-Some.ensures.steps;
+      steps = c.in-Some.ensures.steps;
     } in
     part_stepped c.args.lane c.args.home.now c.now-now.result c.random-random.result c.in-Some-port_of.port octets gives _ _ _ _ c.now-now.ensures c.random-random.ensures c.send_home.ensures.sends

@@ -7,8 +7,8 @@ use Rattle.locked_lanes.specs.Outlet.{IsOutlet}
 use Rattle.locked_lanes.specs.Fates.{AccountsForAll, answered_with, marked_number}
 use Rattle.rad_lane.specs.Book.{moment_in}
 use Rattle.locked_lanes.proofs.Answers.{same_by_probe}
-use Rattle.locked_lanes.proofs.Fates.{accounts_by_reply, accounts_by_probe, unanswered}
-use Rattle.locked_lanes.proofs.Outlets.{outlet_answered, bounded_answered, numbered_answered, outlet_same, bounded_same, numbered_same}
+use Rattle.locked_lanes.proofs.Fates.{accounts_by_reply, accounts_by_probe, unanswered, answers_record}
+use Rattle.locked_lanes.proofs.Outlets.{outlet_answered, bounded_answered, numbered_answered, limited_answered, outlet_same, bounded_same, numbered_same, limited_same}
 use Rattle.locked_lanes.proofs.desk.Desk.hear.Goals as goal
 use Rattle.locked_lanes.proofs.desk.Desk.hear.Goals.{In-Ok-ProbeAnswered}
 
@@ -29,6 +29,7 @@ give-serial-requires-clause-next c =
     record {
       serial = heard.2.serial ∙ heard.1.keeps.serial ∙ sym c.args.self.now.outlet.served ∙ ap length (sym same);
       first = ap (answered_with (marked_number response.reply.sending)) same ∙ unanswered _ _ _ _ _ _ _ _ c.keep_law.ensures c.keep_law_of.ensures heard.1 heard.2 c.args.self.now.accounted;
+      answers = answers_record _ _ _ _ _ _ _ c.keep_law_of.ensures heard.1 heard.2;
     }
 
 pub invariant_of-self-in-Ok-Answer : goal.invariant_of-self-in-Ok-Answer
@@ -42,6 +43,7 @@ invariant_of-self-in-Ok-Answer c =
       outlet = subst (IsOutlet c.hear-heard.new.self) (sym given) (outlet_answered _ _ _ _ _ _ _ _ heard.1 heard.2 c.args.self.now.outlet);
       bounded = bounded_answered _ _ _ _ _ _ heard.1 c.args.self.now.bounded;
       numbered = numbered_answered _ _ _ _ _ _ _ heard.1 c.args.self.now.numbered;
+      limited = limited_answered _ _ _ _ _ _ _ heard.1 c.args.self.now.limited;
     }
 
 pub returns-in-Ok-Answer : goal.returns-in-Ok-Answer
@@ -70,6 +72,7 @@ invariant_of-self c = record {
   outlet = subst (IsOutlet c.args.self.now.lane) (sym c.is_full.ensures.looked.1) c.args.self.now.outlet;
   bounded = c.args.self.now.bounded;
   numbered = c.args.self.now.numbered;
+  limited = c.args.self.now.limited;
 }
 
 pub returns-then-is_full : goal.returns-then-is_full
@@ -92,6 +95,7 @@ invariant_of-self-in-Ok-ProbeAnswered c =
       outlet = subst (IsOutlet new) (sym c.is_full.ensures.looked.1) (outlet_same old new _ same c.args.self.now.outlet);
       bounded = bounded_same old new same c.args.self.now.bounded;
       numbered = numbered_same old new _ same c.args.self.now.numbered;
+      limited = limited_same old new _ same c.args.self.now.limited;
     }
 
 pub returns-in-Ok-ProbeAnswered : goal.returns-in-Ok-ProbeAnswered

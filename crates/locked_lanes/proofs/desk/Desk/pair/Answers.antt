@@ -37,4 +37,5 @@ invariant_of-desk c =
       accounted = subst (AccountsForAll c.in-Ok-new.lane) (sym c.in-Ok.ensures.producer.0) (subst (λ b. AccountsForAll b []) made (accounts_at_first c.args.setup));
       bounded = subst (λ (b : Book). b.setup.limits.queue ≤ 65536) made (subst (λ (n : LimitNumbers). n.queue ≤ 65536) c.limits.ensures.value c.numbers-places.ensures.in_range.queue.1);
       numbered = ap (λ (b : Book). b.setup.lane) c.in-Ok-new.ensures ∙ sym c.lane-number.ensures;
+      limited = ap (λ (b : Book). b.setup.limits) c.in-Ok-new.ensures ∙ sym c.limits.ensures.value;
     }

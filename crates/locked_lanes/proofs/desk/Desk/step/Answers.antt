@@ -1,7 +1,7 @@
 use Rattle.std.proofs.Common.{◌≡◌, length, arith}
 use Rattle.locked_lanes.proofs.Answers.{same_by_step}
 use Rattle.locked_lanes.proofs.Fates.{accounts_by_step}
-use Rattle.locked_lanes.proofs.Outlets.{outlet_same, bounded_same, numbered_same}
+use Rattle.locked_lanes.proofs.Outlets.{outlet_same, bounded_same, numbered_same, limited_same}
 use Rattle.locked_lanes.proofs.Wires.{departs}
 use Rattle.locked_lanes.proofs.desk.Desk.step.Goals as goal
 
@@ -16,6 +16,7 @@ invariant_of-self c =
       accounted = accounts_by_step old new _ _ _ _ _ stepped.lawful.0 stepped.lawful.1 stepped.steps c.args.self.now.accounted;
       bounded = bounded_same old new same c.args.self.now.bounded;
       numbered = numbered_same old new _ same c.args.self.now.numbered;
+      limited = limited_same old new _ same c.args.self.now.limited;
     }
 
 pub returns-clause-departs : goal.returns-clause-departs

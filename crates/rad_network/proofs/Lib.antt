@@ -1,0 +1,10 @@
+pub mod Among
+pub mod Marks
+pub mod Stands
+pub mod AfterCall
+pub mod InLife
+pub mod AnswersFound
+pub mod Apart
+pub mod Serves
+pub mod NoneAgain
+pub mod Delivered
