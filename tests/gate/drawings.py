@@ -205,7 +205,7 @@ PLACES = {
     "rad_advice": (0, 4), "rad_addresses": (1, 4), "ledger_state": (2, 4), "rad_simulation": (5, 4),
     "rad_desk": (3, 5), "rad_network": (4, 5),
     "json_objects": (5, 6), "rad_log": (1, 6), "locked_lanes": (3, 6), "rad_progress": (4, 6),
-    "rad_lane": (3, 7),
+    "rad_lane": (3, 7), "spool_files": (5, 7),
     "rad_files": (0, 8), "rad_realms": (2, 8), "block_queue": (3, 8), "rad_tables": (4, 8),
     "rad_config": (2, 9), "raw_lists": (3, 9),
     "rad_auth": (2, 10),

@@ -23,11 +23,17 @@ LIMITS, RINGS, WAKES, LEFT = "network/limits", "network/parallel_lanes", "timing
 # By source: each number, and what sees it: a test of a script, a row of tests/rows, or one of the above.
 NUMBERS = {
     "block_queue/src/block_queue.rt": {"MOST": ("0x8000_0000_0000_0000", PROVED)},
+    "spool_files/src/check_sum.rt": {"POLYNOMIAL": ("0xedb8_8320", PROVED)},
+    "spool_files/src/folder.rt": {"MODE": ("0o600", FORM), "FOLDER_MODE": ("0o700", FORM), "DIGITS": ("16", FORM)},
+    "spool_files/src/segment.rt": {"MOST_OCTETS": ("1 << 24", PROVED), "BESIDE": ("10", PROVED)},
+    "spool_files/src/tests.rt": {"BATCHES": ("40", CHOICE)},
     "ledger_files/src/batch.rt": {"SHARED": ("65_536", CHOICE), "LONG": ("2048", CHOICE), "THREADS": ("3", CHOICE)},
     "ledger_files/src/chain.rt": {"SUM_OCTETS": ("32", PROVED)},
+    "ledger_files/src/tail.rt": {"TAIL_OCTETS": ("75", PROVED)},
     "ledger_files/src/rotation.rt": {"MOST_OCTETS": ("268_369_920", PROVED), "STAY": ("10_000", PROVED)},
     "ledger_files/src/utc.rt": {"DAY": ("86_400_000", PROVED), "DAYS_TO_1970": ("719_468", PROVED), "CYCLE": ("146_097", PROVED),
                                 "CENTURY": ("36_524", PROVED), "FOUR_YEARS": ("1461", PROVED), "YEAR": ("365", PROVED)},
+    "ledger_files/src/tail.rt": {"TAIL_OCTETS": ("75", PROVED)},
     "ledger_lines/src/reading.rt": {"MOST_LINE_OCTETS": ("65_536", "ledger/auditor_verdicts shown")},
     "raw_lists/src/region.rt": {"PLACES": ("32", CHOICE), "MOST_PLACES": ("0x1_0000_0000", PROVED)},
     "raw_lists/src/rows.rt": {"LEAST_PLACES": ("32", CHOICE)},
@@ -75,6 +81,8 @@ NUMBERS = {
         "UNTOLD": ("u64::MAX", FORM), "NUMBERS": ("1 << 24", PROVED), "TIMES": ("1 << 40", PROVED)},
     "ledger_state/src/file_sums.rt": {"SUMS": ("16", CHOICE), "WORDS": ("4", PROVED)},
     "ledger_state/src/fault.rt": {"NUMBERS": ("1 << 32", CHOICE)},
+    "ledger_state/src/handlings.rt": {
+        "TIMES": ("1 << 42", PROVED), "ROWS": ("1 << 22", PROVED), "COUNTS": ("1 << 32", PROVED), "UNTOLD": ("u64::MAX", FORM)},
     "rad_files/src/configuration.rt": {"MOST_FILE_OCTETS": ("1_048_576", "rows command/check-file-of-the-greatest-length")},
     "rad_metrics/src/numbers.rt": {"STEP": ("1000", "ledger/disk_faults a_clock_that_is_set_moves_the_times")},
     "rad_metrics/src/system_files.rt": {"MOST_OCTETS": ("1 << 22", CHOICE)},
@@ -125,11 +133,12 @@ NUMBERS = {
     "ledger_writer/src/inlet.rt": {"LOOK": ("1", CHOICE)},
     "ledger_writer/src/lines.rt": {"GREATEST_SERIAL": ("9_223_372_036_854_775_807", PROVED)},
     "ledger_writer/src/file_before.rt": {
-        "READ_OCTETS": ("65_536", CHOICE), "RUN_DIGITS": ("16", "ledger/written_ledgers names_the_file_of_another_run_before"),
+        "END_OCTETS": ("2 * (MOST_LINE_OCTETS + 1)", "ledger/written_ledgers the_tie_is_found_at_the_end_of_any_file"), "RUN_DIGITS": ("16", "ledger/written_ledgers names_the_file_of_another_run_before"),
         "NUMBER_DIGITS": ("6", "ledger/written_ledgers names_the_file_of_another_run_before")},
     "ledger_writer/src/giving.rt": {
         "ROOM": ("67_108_864", "ledger/written_ledgers BOUND"),
         "PLACES": ("180_000", "ledger/written_ledgers a_hundred_eighty_thousand_small_entries_wait")},
+    "ledger_writer/src/opening.rt": {"IDENTIFIERS": ("256", FORM), "BESIDE": ("256", CHOICE)},
     "ledger_writer/src/parcel.rt": {"LONGEST": ("4096", PROVED), "MOST": ("3 * LONGEST", PROVED)},
     "ledger_writer/src/runtime_disk.rt": {"MODE": ("0o640", "ledger/written_ledgers TESTS")},
     "ledger_writer/src/writer.rt": {

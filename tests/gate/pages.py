@@ -29,12 +29,14 @@ FOLDERS = {
     "preload": "libraries that are loaded into the program before its own, by `LD_PRELOAD`",
     "lib": "what the others share",
     "lib/ledger": "what those of `ledger/` share",
+    "lib/always": "what holds in each",
     "lib/tools": "what those of `tools/` share",
     "lib/cluster": "what those of `cluster/` share",
     "lib/tables": "what those of `configuration/` share",
+    "lib/spool": "segments of a spool, by another hand",
 }
 # Folders of what is no script. The list leaves out what is in them.
-SHARED = ("preload", "lib", "lib/ledger", "lib/tools", "lib/cluster", "lib/tables")
+SHARED = ("preload", "lib", "lib/always", "lib/ledger", "lib/tools", "lib/cluster", "lib/tables", "lib/spool")
 MOST_OF_A_FOLDER = 15
 
 

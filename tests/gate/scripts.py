@@ -64,6 +64,7 @@ SCRIPTS = [
     Script("models/spoiled_datagrams"),
     Script("models/longest_lists"),
     Script("faults/refused_memory"),
+    Script("faults/failing_calls"),
     Script("faults/closed_descriptors"),
     Script("faults/queue_memory", QUEUE_TESTS),
     Script("faults/exit_reasons"),

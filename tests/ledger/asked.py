@@ -33,7 +33,7 @@ ACCT_DELAY_TIME, MARK_OCTETS = 41, 12
 PR_CAPBSET_DROP, CAP_DAC_OVERRIDE, CAP_DAC_READ_SEARCH = 24, 1, 2
 LIBC = ctypes.CDLL(None)
 START, STOP = 1, 2
-KINDS = {START: "Start", STOP: "Stop"}
+KINDS = {START: "Start", STOP: "Stop", 3: "Interim-Update", 7: "Accounting-On", 8: "Accounting-Off"}
 # A configuration that has lost a server or a client still reads.
 NOBODY = "203.0.113.1"
 
@@ -284,7 +284,7 @@ def a_comparison_hides_no_verdict(site):
 
 def a_hand_out_tells_nothing_of_others(site):
     """What is handed out is right under the configuration of its home server alone, and has no other one's name or counts. With `--others` it
-    has both, and the sums of the run, so that a line that is changed is found. A file that is not read is told."""
+    has both. It has the sums of the run, so that a line that is changed or gone is found. A file that is not read is told."""
     site.run((b"S1",), (b"S2", START, "spare"), (b"S3", STOP), (b"S4", START, "spare"))
     site.run((b"S5",))
     (own := site.folder / "own").mkdir()
@@ -292,20 +292,24 @@ def a_hand_out_tells_nothing_of_others(site):
     out, with_others = own / "out", own / "others"
     hope("what is told", site.ask("hand-out", "--home", "billing", out, site.ledger), (0, "3 records, 2 lines left out\n", ""))
     octets = b"".join(it.read_bytes() for it in out.iterdir())
-    hope("words of others", [it for it in (b"spare", b"hidden", b'"sum"', b'"entries":2', b'"before"') if it in octets], [b'"entries":2'])
+    hope("words of others", [it for it in (b"spare", b'"hidden":1', b'{"type":"hidden","lane":1,"kind":"entry","sum":"') if it in octets],
+         [b'"hidden":1', b'{"type":"hidden","lane":1,"kind":"entry","sum":"'])
     ends = [json.loads(line)["lanes"] for line in octets.splitlines() if json.loads(line)["type"] in ("begin", "end")]
     hope("lanes", {len(it) for it in ends}, {1})
     status, lines = site.audit("--partial", config, *sorted(out.iterdir()))
     hope(f"the audit {lines}", (status, sorted(re.sub("^run [0-9a-f]*", "run", it) for it in lines)), (0, [
-        "run lane 0 billing accepted 1 answered 1 left 0", "run lane 0 billing accepted 2 answered 2 left 0",
+        "run hidden 2", "run hidden 4", "run lane 0 billing accepted 1 answered 1 left 0", "run lane 0 billing accepted 2 answered 2 left 0",
         "run lane 0 billing from 0 entries 1 not judged 1 part", "run lane 0 billing from 0 entries 2 not judged 2 part",
-        *["run lane 0 billing part: no-sum not-judged"] * 2]))
+        *["run lane 0 billing part: not-judged"] * 2]))
     file = next(it for it in out.iterdir() if b'"S3"' in it.read_bytes())
     whole = file.read_bytes().splitlines(True)
-    file.write_bytes(b"".join(it for it in whole if b'"S1"' not in it))
-    hope("one is taken away", site.audit("--partial", config, *out.iterdir())[0], 3)
+    (at,) = (place for place, it in enumerate(whole) if b'"S1"' in it)
+    file.write_bytes(b"".join(whole[:at] + whole[at + 1 :]))
+    # the sum of a line that is left out counts as right, so that only the serial is missing in front of one
+    wanted = 3 if b'"type":"hidden"' in whole[at + 1] else 5
+    hope("one is taken away", site.audit("--partial", config, *out.iterdir())[0], wanted)
     again = own / "again"
-    hope("handed out again", site.ask("hand-out", "--home", "billing", again, out)[:2], (0, "2 records, 0 lines left out\n"))
+    hope("handed out again", site.ask("hand-out", "--home", "billing", again, out)[:2], (0, "2 records, 2 lines left out\n"))
     hope("the same octets", sorted(it.read_bytes() for it in again.iterdir()), sorted(it.read_bytes() for it in out.iterdir()))
     site.ask("hand-out", "--home", "billing", "--others", with_others, site.ledger)
     octets = b"".join(it.read_bytes() for it in with_others.iterdir())
@@ -361,6 +365,23 @@ def a_repeat_is_told(site):
     packed.write_bytes(gzip.compress(file.read_bytes()))
     hope("compressed", "Acct-Delay-Time 25" in site.ask("find", site.config, packed)[1], True)
     hope("a comparison", "answered" in site.ask("reconcile", "--home", "billing", "--ledger", file, site.config, "/dev/null")[1], False)
+    for seconds in (31, 32):
+        site.run((b"S2", STOP, "billing", NAS, b"bob", delay(seconds)))
+        for index in ((), ("--index", site.folder / "index")):
+            _, out, _ = site.ask("find", *index, "--session", "S2", site.config, site.ledger)
+            hope(f"a later run: {out}", re.findall(r"Acct-Delay-Time (\d+)", out), list(map(str, range(31, seconds + 1))))
+
+
+def each_kind_of_record_is_compared_as_it_is(site):
+    """Of a record of each kind, Accounting-On and Accounting-Off too, the ledger and the detail file have the same one."""
+    site.run(*((b"S%d" % kind, kind) for kind in sorted(KINDS, reverse=True)))
+    details = site.folder / "detail"
+    details.write_text(site.details())
+    hope("of all", differences(site, site.config, details)[:2], (0, [len(KINDS), 0, 0, 0, 0]))
+    for kind, word in KINDS.items():
+        other = next(it for it in KINDS.values() if it != word)
+        details.write_text(site.details().replace(f"Acct-Status-Type = {word}\n", f"Acct-Status-Type = {other}\n"))
+        hope(f"{word} as {other}", differences(site, site.config, details)[1][2:4], [1, 1])
 
 
 def renewed(site):
@@ -510,7 +531,7 @@ def a_status_is_that_of_the_lines(site):
 
 TESTS = [no_file_of_a_folder_stays_unread, no_file_without_permission_stays_unread, a_run_that_is_not_there_is_told,
          a_comparison_is_of_what_is_asked_for_on_both_sides, midnight_makes_no_difference, a_comparison_hides_no_verdict,
-         a_hand_out_tells_nothing_of_others, what_is_handed_out_is_its_owners_alone, a_repeat_is_told,
+         a_hand_out_tells_nothing_of_others, what_is_handed_out_is_its_owners_alone, a_repeat_is_told, each_kind_of_record_is_compared_as_it_is,
          each_record_is_judged_by_one_of_several_configurations, an_index_is_asked_again, a_status_is_that_of_the_lines,
          an_import_mends_what_is_there_otherwise]
 

@@ -24,7 +24,7 @@ import sys
 import tempfile
 
 from tests.lib import TOP, Lane, Run, text
-from tests.lib.ledger.chained_cases import sealed
+from tests.lib.ledger.chained_cases import TAIL, sealed
 from tests.lib.ledgers import chained, hidden
 
 SECONDS = 300
@@ -44,6 +44,9 @@ MODEL = TOP / "tests" / "lib" / "audit_model.py"
 # How much is spoiled where the model reads it too, and one line of how many is left out.
 SPOILED, HIDDEN = 4000, 50
 
+# How often one octet of a whole ledger is changed.
+ONE_OCTET = 300
+
 # How many lines stand between two that are right, at most, and how many entries are read for the speed.
 APART = 20
 ENTRIES = 20000
@@ -52,7 +55,7 @@ ENTRIES = 20000
 MEMORY = 16 << 20
 
 # The least entries that are read in a second of processor time, on a machine that has other work too.
-LEAST = 40000
+LEAST = 30000
 
 # How many runs there are at once, and the most seconds of processor time for them, on a machine that has other work too.
 RUNS, MOST_SECONDS = 160000, 8
@@ -129,13 +132,14 @@ def spoiled(chance, count):
 
 
 def read(program, folder, content):
-    """What the program prints of a ledger, its status, and the processor seconds that it took."""
+    """What the program prints of a ledger but for hints, its status, and the processor seconds that it took."""
     (folder / "config.toml").write_text(CONFIG)
     (folder / "ledger").write_text(content, "utf-8")
     before = resource.getrusage(resource.RUSAGE_CHILDREN)
     ran = subprocess.run([program, "config.toml", "ledger"], cwd=folder, capture_output=True, encoding="utf-8", timeout=SECONDS)
     after = resource.getrusage(resource.RUSAGE_CHILDREN)
-    return ran.stdout.splitlines(), ran.stderr, ran.returncode, after.ru_utime + after.ru_stime - before.ru_utime - before.ru_stime
+    told = "".join(line for line in ran.stderr.splitlines(keepends=True) if not line.startswith("hint: "))
+    return ran.stdout.splitlines(), told, ran.returncode, after.ru_utime + after.ru_stime - before.ru_utime - before.ru_stime
 
 
 def of_spoiled(program, folder, count, seed):
@@ -164,7 +168,7 @@ def of_octets(program, folder, seed):
     chance, printed = random.Random(seed), []
     lines, _ = spoiled(chance, SPOILED // 2)
     first, *rest = sealed({"ledger": "".join(f"{line}\n" for line, _ in lines)})["ledger"].split("\n")[:-1]
-    rest = [hidden(line) if chance.randrange(HIDDEN) == 0 else line for line in rest]
+    rest = [hidden({"sum": line[-66:-2]}) if TAIL.search(line) and chance.randrange(HIDDEN) == 0 else line for line in rest]
     content = bytearray(text([first, *rest]).encode())
     for _ in range(SPOILED // 2):
         at = chance.randrange(len(content))
@@ -179,6 +183,23 @@ def of_octets(program, folder, seed):
             yield f"{line!r}, and by the model {other!r}"
     if status != its:
         yield f"status {status}, and by the model {its}"
+
+
+def of_one_octet(program, folder, seed):
+    """A whole ledger with sums in which one octet is another one, also in the line that begins it, in the one that ends it and in sums: it is
+    wrong, or its first line has no sum any more, or its last one no line end."""
+    chance, run = random.Random(seed), Run(0xA0B1C2D3E4F50617, [Lane(0, "h1", HOME)])
+    lines = chained([run.begin(), *(run.entry(client=("192.0.2.10", NAS)) for _ in range(2)), run.left(client=("192.0.2.10", NAS)), run.end_of_all()])
+    (folder / "config.toml").write_text(CONFIG)
+    whole = text(lines).encode()
+    for _ in range(ONE_OCTET):
+        at = chance.randrange(len(whole))
+        other = chance.choice([octet for octet in range(256) if octet != whole[at]])
+        (folder / "ledger").write_bytes(whole[:at] + bytes([other]) + whole[at + 1 :])
+        ran = subprocess.run([program, "config.toml", "ledger"], cwd=folder, capture_output=True, timeout=SECONDS)
+        allowed = (6,) if at == len(whole) - 1 else (5, 7, 10) if at < len(text(lines[:1])) else (5,)
+        if ran.returncode not in allowed:
+            yield f"octet {at} is {other}: status {ran.returncode}"
 
 
 def of_memory(program, folder):
@@ -208,7 +229,9 @@ def of_runs(program, folder):
     shape = dumped(Run(0, [Lane(0, "h1", HOME)]).begin()).replace(f"{0:016x}", "{}", 1)
     front, _, back = shape.partition("{}")
     lines = [f"{front}{name:016x}{back}\n" for name in names]
-    printed, err, _, took = read(program, folder, "".join([*lines, *lines]))
+    later = [line.replace('"file":0', '"file":1') for line in lines]
+    printed, err, _, took = read(program, folder, "".join([*lines, *later]))
+    printed = [line for line in printed if not line.endswith(" behind another run")]
     print(f"{RUNS} runs in {took:.2f} s of processor time")
     if [line.split()[1] for line in printed] != [f"{name:016x}" for name in names for _ in range(2)] or err or took > MOST_SECONDS:
         yield f"{len(printed)} lanes of {RUNS} runs, {err!r}, in {took:.2f} s"
@@ -247,13 +270,13 @@ def main():
     count, seed = (int(word) for word in [*sys.argv[2:], "100000", "1"][: len(sys.argv) - 2] + ["100000", "1"][len(sys.argv) - 2 :])
     with tempfile.TemporaryDirectory() as made:
         folder = pathlib.Path(made)
-        wrong = [*of_spoiled(program, folder, count, seed), *of_octets(program, folder, seed), *of_memory(program, folder), *of_runs(program, folder),
+        wrong = [*of_spoiled(program, folder, count, seed), *of_octets(program, folder, seed), *of_one_octet(program, folder, seed), *of_memory(program, folder), *of_runs(program, folder),
                  *of_places(program, folder), *of_speed(program, folder)]
     for line in wrong[:20]:
         print(line)
     if len(wrong) > 20:
         print(f"and {len(wrong) - 20} more")
-    print(f"{count + 4 - min(len(wrong), count)} passed, {len(wrong)} failed")
+    print(f"{count + 5 - min(len(wrong), count)} passed, {len(wrong)} failed")
     sys.exit(1 if wrong else 0)
 
 

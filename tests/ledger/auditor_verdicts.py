@@ -4,6 +4,7 @@ usage: python3 -m tests.ledger.auditor_verdicts AUDITOR    the path of rad_audit
 
 The last line is `N passed, M failed`.
 """
+import gzip
 import pathlib
 import subprocess
 import sys
@@ -11,7 +12,8 @@ import tempfile
 
 from tests.lib import TOP, audit_model, ledgers, text
 from tests.lib.ledger.chained_cases import all_cases
-from tests.lib.ledger.cases import NAME, config, lines_of, one
+from tests.lib.ledger.cases import NAME, OTHER, config, lines_of, one
+from tests.lib.ledgers import chained
 
 SECONDS = 60
 
@@ -50,6 +52,31 @@ def audited(program, words, folder):
     return ran.stdout.decode("utf-8", "replace"), ran.stderr.decode("utf-8", "replace"), ran.returncode
 
 
+def without_hints(err):
+    """What stands on standard error besides hints."""
+    return "".join(line for line in err.splitlines(keepends=True) if not line.startswith("hint: "))
+
+
+def hinted(program, folder):
+    """What is told of a cause where lines are wrong alike, once each."""
+    lines = chained([*lines_of(one(), 3)])
+    other, whole = config((("h1", b"another one"), ("h2", OTHER))), text(lines).encode()
+    secret = f"hint: run {NAME:016x} lane 0 h1: each entry is WrongSent; is the secret in CONFIG the one of its time?\n"
+    returns, packed = "hint: line ends with a carriage return\n", "hint: file is compressed with gzip\n"
+    cases = {
+        "another secret": (other, whole, secret, 5),
+        "another secret, of one entry": (config(), text([*lines[:2], {**lines[2], "sent": lines[2]["sent"][:-1] + "0"}]).encode(), "", 5),
+        "carriage returns": (config(), whole.replace(b"\n", b"\r\n"), returns, 7),
+        "gzip": (config(), gzip.compress(whole), packed, 5),
+        "all of these": (other, b"\x1f\x8b\n" + whole.replace(b"\n", b"\r\n"), returns + packed + secret, 5),
+    }
+    for name, (configuration, octets, wanted, status) in cases.items():
+        (folder / "good.toml").write_text(configuration)
+        (folder / "a").write_bytes(octets)
+        _, err, ended = audited(program, ["good.toml", "a"], folder)
+        yield f"hint: {name}", None if (err, ended) == (wanted, status) else f"{(err, ended)} and not {(wanted, status)}"
+
+
 def ended_early(program, folder):
     """What is told where a file can't be read behind one that can: what was found until then, and no more."""
     (folder / "good.toml").write_text(config())
@@ -80,7 +107,8 @@ def shown(program):
             (folder / "config.toml").write_text(configuration)
             for file, content in files.items():
                 (folder / file).write_bytes(content.encode("utf-8", "surrogateescape"))
-            found = audited(program, [*words, "config.toml", *files], folder)
+            out, err, ended = audited(program, [*words, "config.toml", *files], folder)
+            found = out, without_hints(err), ended
         wanted = "".join(f"{line}\n" for line in lines), "", status
         yield name, None if found == wanted else f"{found}\nand not {wanted}"
     with tempfile.TemporaryDirectory() as made:
@@ -88,7 +116,7 @@ def shown(program):
             out, err, ended = audited(program, words, made)
             right = out == "" and err.startswith(line) and err.endswith("\n") and ended == status
             yield " ".join(words), None if right else f"{(out, err, ended)} and not {(line, status)}"
-    for ends in ended_early, to_full_disk:
+    for ends in ended_early, to_full_disk, hinted:
         with tempfile.TemporaryDirectory() as made:
             yield from ends(program, pathlib.Path(made))
     example = audited(program, ["one-home.toml", "one-home.jsonl"], TOP / "examples")

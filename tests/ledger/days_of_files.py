@@ -50,6 +50,32 @@ def entries_of_two_days_that_wait_together_are_two_files(trial):
          [(6, {clock.date(0)}), (5, {clock.date(1)})])
 
 
+def a_file_that_was_made_is_of_its_day(trial):
+    """Where midnight comes between the making of a file and its first line, another file is begun: each has the lines of its day alone."""
+    clock = Steered(trial, "failing_disks", DISK_PATH=str(trial.folder), MODE_FAULTS="3", RAD_PROXY_LOG="info")
+    clock.set(1)
+    until("another file", lambda: len(trial.files()) == 2)
+    trial.ask(5)
+    trial.ends()
+    dates = [(file.name[:10], line["time"][:10]) for file in trial.files() for line in trial.ledger_lines([file])]
+    hope("the dates", set(dates), {(clock.date(1), clock.date(1))})
+
+
+def a_clock_that_is_out_dates_nothing_1970(trial):
+    """Where the clock can't be read when the next file is begun, its first line and its name have the last time that was read."""
+    out = trial.room / "out"
+    clock = Steered(trial, CLOCK_OUT=str(out))
+    trial.ask(5)
+    until("they are written", lambda: len(trial.entries()) == 5)
+    out.touch()
+    trial.files()[0].unlink()
+    until("another file", trial.files)
+    until("its first line", trial.ledger_lines)
+    trial.kill()
+    hope("the dates", {(file.name[:10], line["time"][:10]) for file in trial.files() for line in trial.ledger_lines([file])},
+         {(clock.date(0), clock.date(0))})
+
+
 def a_clock_that_went_back_has_midnights(trial):
     """Where the clock jumps ahead by a day and back, the file goes on, and the next midnight begins the next one."""
     clock = Steered(trial)
@@ -109,7 +135,7 @@ def moments_are_those_that_python_prints(trial):
 
 TESTS = [
     midnight_is_a_next_file, entries_of_two_days_that_wait_together_are_two_files, a_clock_that_went_back_has_midnights, a_midnight_soon_after_a_step_back_is_late,
-    a_clock_that_flaps_begins_one_file, moments_are_those_that_python_prints,
+    a_clock_that_flaps_begins_one_file, a_file_that_was_made_is_of_its_day, a_clock_that_is_out_dates_nothing_1970, moments_are_those_that_python_prints,
 ]
 
 

@@ -8,6 +8,8 @@ file is there, and wrong_clock.c sets the time of day or lets the clock fail. sl
 import contextlib
 import os
 import re
+import resource
+import signal
 import time
 
 from tests.lib import ACCT_SESSION_ID, HOME_SECRET, NAS_SECRET, START, answer, attribute, built, hope, request, try_named, until
@@ -15,8 +17,16 @@ from tests.lib.ledger.trials import PATIENCE, Steered, Trial
 
 # How long syncs fail, and for how long at least the number then says so.
 FAILS, UNSYNCED = 8, 4.0
+# How long a call hangs.
+HANGS = 8.0
 # For how many seconds the program tries to write what is left at its end, and how much later it may end.
 TRIES, LATE = 10.0, 2.0
+
+
+def limit_files(octets):
+    """Files of this process may have so many octets, and a write beyond fails."""
+    signal.signal(signal.SIGXFSZ, signal.SIG_IGN)
+    resource.setrlimit(resource.RLIMIT_FSIZE, (octets, resource.RLIM_INFINITY))
 
 
 class Failing:
@@ -106,6 +116,48 @@ def a_sync_that_fails_begins_no_file_each_second(trial):
     hope("what is told", told(trial), [1, 1, 0])
 
 
+def a_file_that_cannot_be_synced_is_given_up_once_a_minute(trial):
+    """While syncs fail for minutes, one more file is begun a minute after the one before, and not sooner, however often they are tried."""
+    failing, moved = Failing(trial), trial.room / "moved"
+    moved.write_text("0")
+    clock = Steered(trial, "failing_disks", CLOCK_MOVED=str(moved), **failing.variables)
+    writes(trial, 20)
+    with failing.on():
+        until("the second file", lambda: trial.ask(1) and len(trial.files()) == 2)
+        began, seconds = time.monotonic(), 0
+        while len(trial.files()) < 4:
+            tried, seconds = failing.count(), seconds + 19
+            moved.write_text(str(1000 * seconds))
+            until("it was tried twice more", lambda: failing.count() >= tried + 2)
+            passed = seconds + time.monotonic() - began
+            hope(f"files after {passed:.0f} seconds", passed % 60 < 4 or len(trial.files()) == 2 + passed // 60, True)
+    trial.ends()
+    trial.is_all_there()
+    hope("the day", {line["time"][:10] for line in trial.ledger_lines()}, {clock.date(0)})
+
+
+def syncs_that_fail_behind_writes_are_told_with_them(trial):
+    """Where syncs fail too before writes go on again, the fault is over once a sync holds, and not before; both are told as one."""
+    writing, syncing = Failing(trial, "WRITE_FAILS"), Failing(trial)
+    syncing.file = trial.room / "syncs-fail"
+    variables = writing.variables | {"SYNC_FAILS": str(syncing.file)}
+    trial.begin(LD_PRELOAD=built(trial.room, "failing_disks"), **variables)
+    writes(trial, 20)
+    with syncing.on():
+        with writing.on():
+            trial.ask(20)
+            until("it is told", lambda: trial.events("ledger-fault"))
+        until("they are written", lambda: trial.number("ledger_written_total") == 40)
+        tried = syncing.count()
+        until("syncs were tried", lambda: syncing.count() > tried + 2)
+        hope("what is told", told(trial), [1, 0, 0])
+        until("the age of what is not synced", lambda: trial.number("ledger_unsynced_seconds") > 1)
+    until("it is told", lambda: trial.events("ledger-back"), 5)
+    trial.ends()
+    trial.is_all_there()
+    hope("what is told", told(trial), [1, 1, 0])
+
+
 def a_sync_that_fails_at_midnight_is_told(trial):
     """Where the sync of a file fails that midnight ends, that is told, and it is synced before the next one is begun."""
     failing = Failing(trial)
@@ -143,6 +195,48 @@ def a_full_disk_that_has_room_soon_after_the_end_is_whole(trial):
     hope("status", trial.ran.wait(TRIES), 0)
     trial.is_all_there()
     hope("what is told", told(trial) + [len(trial.events("ledger-left"))], [1, 1, 0, 0])
+
+
+def what_waits_is_told_while_a_call_hangs(trial):
+    """While the first opening of a file, a first write or a first sync takes its time, both ages are those of the oldest entry that waits."""
+    for word in ("SLOW_OPEN", "SLOW_WRITE", "SLOW_SYNC"):
+        trial.begin(LD_PRELOAD=built(trial.room, "slow_files"), SLOW_PATH=str(trial.folder), **{word: str(int(1000 * HANGS))})
+        # A sync is due some time after the start. What comes while it hangs waits.
+        if word == "SLOW_SYNC":
+            until("a file", trial.ledger_lines)
+            time.sleep(1.5)
+        hope("acknowledged", trial.ask(100), 100)
+        time.sleep(HANGS / 2)
+        waits, ages = trial.number("ledger_waiting"), [trial.number(f"ledger_{name}_seconds") for name in ("oldest_waiting", "unsynced")]
+        hope(f"{word}: waiting, and the ages", (waits, [age > HANGS / 4 for age in ages], ages), (100, [True] * 2, ages))
+        trial.kill()
+        trial.log.write_text("")
+
+
+def each_line_is_sealed_behind_the_one_before_it(trial):
+    """Over files that end in the middle of a line, a disk that is full and a file that is gone each line has its sum behind the one before it,
+    and the last sum that is logged is that of the line that ends the run."""
+    failing, elsewhere = Failing(trial, "WRITE_FAILS"), trial.room / "elsewhere"
+    trial.begin(before=lambda: limit_files(60_000), LD_PRELOAD=built(trial.room, "failing_disks"), RAD_PROXY_COUNTERS="", **failing.variables)
+    hope("acknowledged", trial.ask(300), 300)
+    until("several files", lambda: len(trial.files()) > 2)
+    resource.prlimit(trial.ran.pid, resource.RLIMIT_FSIZE, (resource.RLIM_INFINITY, resource.RLIM_INFINITY))
+    until("the entries", lambda: len(trial.entries()) == 300)
+    with failing.on():
+        hope("acknowledged", trial.ask(100), 100)
+        time.sleep(2.5)
+    until("the entries", lambda: len(trial.entries()) == 400)
+    elsewhere.mkdir()
+    gone = trial.files()[-1]
+    os.link(gone, elsewhere / gone.name)
+    gone.unlink()
+    until("it is told", lambda: trial.events("ledger-lost"), 5)
+    hope("acknowledged", trial.ask(100), 100)
+    trial.ends()
+    files = sorted([*trial.files(), *trial.files(elsewhere)], key=lambda file: file.name[11:])
+    hope("a line is cut short", any(file.read_bytes()[-1:] != b"\n" for file in files), True)
+    hope("the sum at the end", trial.told_sums()[-1], (len(files) - 1, 500, trial.sums(files)))
+    trial.is_all_there(files=files)
 
 
 def a_disk_that_stays_full_is_told_with_the_serials(trial):
@@ -255,7 +349,9 @@ def what_the_system_refuses_to_send_is_counted_apart(trial):
 
 TESTS = [
     a_file_that_is_cut_has_no_hole, a_file_that_is_removed_is_lost, a_sync_that_fails_begins_no_file_each_second,
-    a_sync_that_fails_at_midnight_is_told, a_full_disk_that_has_room_soon_after_the_end_is_whole,
+    a_file_that_cannot_be_synced_is_given_up_once_a_minute, syncs_that_fail_behind_writes_are_told_with_them,
+    a_sync_that_fails_at_midnight_is_told, what_waits_is_told_while_a_call_hangs, each_line_is_sealed_behind_the_one_before_it,
+    a_full_disk_that_has_room_soon_after_the_end_is_whole,
     a_disk_that_stays_full_is_told_with_the_serials, a_disk_that_takes_all_but_the_end_is_told, a_slow_disk_has_ten_seconds,
     a_clock_that_stays_away_leaves_all_in_the_ledger, a_clock_that_is_set_moves_the_times,
     what_the_system_refuses_to_send_is_counted_apart,

@@ -133,7 +133,7 @@ def each_run_is_bound_by_an_authority(site):
         hope(f"{out} {err}", (status, out.count(": stamped\n"), authority.asked), (0, 2, 2))
         hope("again", (stamp(site, "--authority", url), authority.asked), ((0, "", ""), 2))
         status, told, out = checked(site, authority)
-        hope(out, (status, set(told), {it[1:] for it in told.values()}), (0, {first, second}, {("CN=stamper,O=Tests", 1)}))
+        hope(out, (status, set(told), {it[1:] for it in told.values()}), (0, {first, second}, {("CN=stamper,O=Tests", 0)}))
         ended = time.strftime("%Y-%m-%dT%H:%M:%SZ", time.gmtime())
         hope("times", [began <= it[0] <= ended for it in told.values()], [True, True])
         hope("modes", {it.stat().st_mode & 0o777 for it in (site.ledger / "heads").iterdir()}, {0o640})
@@ -152,20 +152,25 @@ def each_run_is_bound_by_an_authority(site):
     hope("elsewhere", (checked(site, authority)[0], checked(site, authority, "--heads", moved)[0]), (13, 0))
 
 
-def a_run_that_goes_on_is_bound_up_to_a_file(site):
-    """Of a run that goes on the latest sum is stamped, and the lines behind it are counted; a run with no sum that binds a line has no head."""
+def a_run_that_goes_on_is_bound_up_to_a_line(site):
+    """Of a run that goes on the sum of the last line is stamped, and the lines behind that are counted."""
     authority = authority_of(site)
     with authority.served() as url, site.running():
         site.talk(b"S1")
         time.sleep(0.5)
         status, out, _ = stamp(site, "--authority", url)
         (run,) = runs_of(site)
-        hope("nothing is bound", (status, out, authority.asked), (0, f"run {run} has no sum yet that binds a line\n", 0))
-        hope("a check", checked(site, authority)[0], 13)
+        hope(f"stamped {out}", (status, authority.asked), (0, 1))
+        status, told, out = checked(site, authority)
+        hope(out, (status, told[run][2]), (6, 0))
+        site.talk(b"S2")
+        time.sleep(0.5)
+        status, told, out = checked(site, authority)
+        hope(out, (status, told[run][2]), (6, 1))
 
 
 def the_next_file_binds_the_one_before(site):
-    """Of a run that goes on at midnight the sum in the first line of the next file is stamped, and binds all lines of the file before."""
+    """Of a run that goes on at midnight the sum of the last line of the next file is stamped, and binds all lines of the file before."""
     authority = authority_of(site)
     back = 4 + int(time.time()) % 86_400
     with authority.served() as url, site.running(LD_PRELOAD=built(site.folder, "wrong_clock"), CLOCK_AHEAD=str(-back)):
@@ -176,9 +181,9 @@ def the_next_file_binds_the_one_before(site):
         (run,) = set(runs_of(site))
         hope("stamped", (stamp(site, "--authority", url)[0], authority.asked), (0, 1))
         status, told, out = checked(site, authority)
-        hope(out, (status, [it[2] for it in told.values()]), (6, [2]))
+        hope(out, (status, [it[2] for it in told.values()]), (6, [0]))
     status, told, out = checked(site, authority)
-    hope(f"behind the end {out}", (status, [it[2] for it in told.values()]), (0, [3]))
+    hope(f"behind the end {out}", (status, [it[2] for it in told.values()]), (0, [1]))
 
 
 def a_head_is_carried_by_hand(site):
@@ -193,7 +198,7 @@ def a_head_is_carried_by_hand(site):
     query.with_suffix(".tsr").write_bytes(authority.answer(query.read_bytes()))
     hope("nothing waits", stamp(site), (0, "", ""))
     status, told, out = checked(site, authority)
-    hope(out, (status, {it[1:] for it in told.values()}), (0, {("CN=stamper,O=Tests", 1)}))
+    hope(out, (status, {it[1:] for it in told.values()}), (0, {("CN=stamper,O=Tests", 0)}))
 
 
 def stamped(site):
@@ -310,7 +315,7 @@ def errors_are_one_line(site):
     hope(f"no openssl {out} {err}", (status, out, err), (4, "", "rad_ledger: no program openssl, which heads want\n"))
 
 
-TESTS = [each_run_is_bound_by_an_authority, a_run_that_goes_on_is_bound_up_to_a_file, the_next_file_binds_the_one_before,
+TESTS = [each_run_is_bound_by_an_authority, a_run_that_goes_on_is_bound_up_to_a_line, the_next_file_binds_the_one_before,
          a_head_is_carried_by_hand, a_wrong_head_is_refused,
          a_head_from_before_the_run_is_refused, a_ledger_without_the_stamped_sum_is_refused, errors_are_one_line]
 

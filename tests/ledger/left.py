@@ -18,7 +18,7 @@ from collections import Counter
 from dataclasses import dataclass
 from datetime import UTC, datetime
 
-from tests.lib import (ACCT_SESSION_ID, ACCT_STATUS_TYPE, HERE, NOTHING_LEFT, PATIENCE, SECRET, Home, LeftOut, Proxy, Server, attribute, bound,
+from tests.lib import (ACCOUNTING_REQUEST, ACCT_SESSION_ID, ACCT_STATUS_TYPE, HERE, NOTHING_LEFT, PATIENCE, SECRET, Home, LeftOut, Proxy, Server, attribute, bound,
                        built, configured, environment, free_port, hope, is_so, need, request, try_named, until, user_name)
 
 # A home server is marked down half a second after a request that it does not answer.
@@ -32,7 +32,7 @@ HOMES, EACH, READ, APART, LAST, LATE = 64, 30, 8192, 0.1, 11.0, 2.0
 MANY, BURST = 100_000, 200
 STATE = re.compile(r"queued (\d+) outstanding (\d+)")
 KEYS = ["type", "run", "time", "home", "lane", "record", "client", "port", "identifier", "authenticator", "realm", "session", "status",
-        "user", "state", "sendings", "accepted", "request"]
+        "user", "state", "sendings", "accepted", "request", "sum"]
 
 
 @dataclass(frozen=True)
@@ -135,7 +135,7 @@ class Left(Proxy):
                 hope(f"state of {each.number}", line["state"], state)
                 hope("its keys", list(line), [key for key in KEYS if key != "sendings" or state != "untaken"])
                 hope("its sendings", line.get("sendings"), {"queued": 0, "outstanding": 1, "untaken": None}[state])
-                accepted = datetime.strptime(line["accepted"], "%Y-%m-%dT%H:%M:%S.%fZ").replace(tzinfo=UTC).timestamp()
+                accepted = moment_of(line["accepted"])
                 hope("its acceptance is within the run", self.began - 1 < accepted < time.time() + 1, True)
         entries = {(line["home"], line["record"]) for line in self.ledger("entry")}
         hope("both answered and left", entries & set(found), set())
@@ -245,6 +245,21 @@ def logs_them_without_a_ledger(trial):
     hope("the folder", list(trial.folder.iterdir()), [])
 
 
+def counts_them_beside_entries(trial):
+    """Where responses and requests that are left wait for the same write, each is counted as written: nothing is told as not written."""
+    trial.begin(**trial.slow_writes())
+    until("the first line", lambda: trial.ledger("begin"))
+    trial.ask(9)
+    trial.ask(6, "h1")
+    until("all came", lambda: len(trial.homes[0].requests()) == 9 and len(trial.homes[1].requests()) == 6)
+    trial.answers(6, 1)
+    for _ in range(6):
+        trial.nas.recv(4096)
+    hope("the last line", trial.ends(), "end: queued 0 outstanding 9 untaken 0")
+    hope("lines", (len(trial.ledger("entry")), len(trial.ledger("left"))), (6, 9))
+    hope("told as not written", trial.lines("ledger-left") + trial.lines("ledger-missing"), [])
+
+
 def names_them_after_an_input_fault(trial):
     """Where the input fails, what is left is told as at an end, and the run has no line that ends it."""
     listener = socket.create_server((HERE, 0))
@@ -296,6 +311,53 @@ def tells_that_it_can_tell_nothing(trial):
     need("memory: refused" in trial.log.read_text().splitlines(), trial.log.read_text())
     hope("what is told", [(line["level"], line["reason"]) for line in trial.lines("left-untold")], [("error", "memory was refused")])
     hope("what is named", (trial.lines("left"), trial.ledger("left"), trial.ledger("end")), ([], [], []))
+
+
+def tells_how_each_answered_request_was_handled(trial):
+    """Each entry has how often its request was sent, in all rounds, and when it was accepted; lanes, clients and requests are told apart.
+    Here lane N is answered once each request of it came N + 1 times, that of lane 3 in its second round."""
+    many = Left(trial.program, trial.room, 4, "first_wait = 300\ntries = 3\ndown_wait = 1000\nprobe_every = 1000\n")
+    clients = [many.nas, bound("127.0.0.2"), bound("127.0.0.3")]
+    text = many.file.read_text("utf-8")
+    one = text[text.index("[[client]]"):text.index("[[home]]")]
+    many.file.write_text(text.replace(one, "".join(one.replace(HERE, nas.getsockname()[0]) for nas in clients)), "utf-8")
+    try:
+        many.begin()
+        sent = {}
+        for number, many.nas in enumerate(clients):
+            for lane in reversed(range(4)):
+                before = time.time()
+                (asked,) = many.ask(1, f"h{lane}")
+                until("it comes", lambda: len(many.homes[lane].requests()) == number + 1)
+                sent[lane, number] = before, time.time(), asked
+        for lane, home in enumerate(many.homes):
+            until("they came so often", lambda: min(Counter(times_of(home)).values()) > lane)
+            last = {packet.octets: (packet, sender) for packet, sender in home.came if packet.code == ACCOUNTING_REQUEST}
+            for packet, sender in last.values():
+                home.answer(packet, sender)
+        until("all are answered", lambda: len(many.ledger("entry")) == 12)
+        many.ends(0)
+        for entry in many.ledger("entry"):
+            lane, number = entry["lane"], entry["record"]
+            before, after, asked = sent[lane, number]
+            hope("whose it is", (entry["client"], entry["port"], entry["session"]), (clients[number].getsockname()[0], asked.port, f"S{number}"))
+            hope("its last keys", list(entry)[-3:], ["accepted", "sendings", "sum"])
+            hope(f"the sendings of {lane} {number}", entry["sendings"], times_of(many.homes[lane]).count(bytes.fromhex(entry["sent"])))
+            hope("as many as were waited for", entry["sendings"] > lane, True)
+            accepted = moment_of(entry["accepted"])
+            hope("it is accepted when it came", before - 0.001 <= accepted <= min(after, moment_of(entry["time"])), True)
+    finally:
+        many.stop()
+
+
+def times_of(home):
+    """The requests that came to a home server, each as often as it came."""
+    home.hear()
+    return [packet.octets for packet, _ in home.came if packet.code == ACCOUNTING_REQUEST]
+
+
+def moment_of(text):
+    return datetime.strptime(text, "%Y-%m-%dT%H:%M:%S.%fZ").replace(tzinfo=UTC).timestamp()
 
 
 def counts_the_one_that_it_could_not_write(trial):
@@ -462,10 +524,10 @@ def ends_where_nobody_reads(trial):
 
 TESTS = [
     names_all_that_a_dead_home_leaves, names_what_was_answered_and_not_taken, names_those_of_each_home,
-    tells_nothing_where_nothing_is_left, logs_them_without_a_ledger, names_them_after_an_input_fault, names_them_after_an_output_fault,
+    tells_nothing_where_nothing_is_left, logs_them_without_a_ledger, counts_them_beside_entries, names_them_after_an_input_fault, names_them_after_an_output_fault,
     names_them_after_a_clock_fault, tells_that_it_can_tell_nothing, counts_what_it_could_not_write,
     counts_the_one_that_it_could_not_write, counts_what_a_full_disk_took_not, names_those_of_many_homes,
-    names_them_to_a_slow_reader, ends_where_nobody_reads, writes_all_of_many,
+    names_them_to_a_slow_reader, tells_how_each_answered_request_was_handled, ends_where_nobody_reads, writes_all_of_many,
 ]
 
 

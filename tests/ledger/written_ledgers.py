@@ -6,7 +6,6 @@ Each test is a function below, and its first line tells what holds. Names choose
 wrong_clock.c sets the time of day, slow_files.c makes sends slow, and failing_disks.c shows the syncs. The last line is
 `N passed, M failed`.
 """
-import hashlib
 import json
 import os
 import random
@@ -63,38 +62,122 @@ def tells_its_metrics_behind_the_others(trial):
 
 
 def names_the_file_of_another_run_before(trial):
-    """The first line of a run has the name, the octets and the SHA-256 of the file of another run that was written last; the first line of
-    a further file has none. What is no file of a ledger is passed over, and so is a file that can't be read."""
-    clock, names = Steered(trial), []
+    """The first line of a run has the name of the file of another run that was written last, and the sum of that one's last whole line; the
+    first line of a further file has none. What is no file of a ledger is passed over, and so is a file that can't be read."""
+    clock = Steered(trial)
     trial.ask(5)
     clock.set(1)
     until("the second file", lambda: len(trial.files()) == 2)
     trial.ask(5)
     trial.ends()
     written = {file: file.read_bytes() for file in trial.files()}
-    for name in ("notes.jsonl", "2026-01-31-0123456789abcdeF-000000.jsonl", "2026-01-31-0123456789abcdef-00000.jsonl", "2026-01-31-0123456789abcdef-000000.jsonl.gz"):
+    for name in ("notes.jsonl", "2026-01-31-0123456789abcdeF-000000.jsonl", "2026-01-31-0123456789abcdef-00000.jsonl", "2026-01-31-0123456789abcdef-000000.jsonl.1"):
         (trial.folder / name).write_text("x")
     (trial.folder / os.fsdecode(b"\xff-0123456789abcdef-000000.jsonl")).write_text("x")
     (trial.folder / "2026-01-31-0123456789abcdef-000007.jsonl").mkdir()
     (trial.folder / "2026-01-31-0123456789abcdef-000008.jsonl").symlink_to("notes.jsonl")
     millionth = trial.folder / "2026-01-31-0123456789abcdef-1000000.jsonl"
-    written[millionth] = b"{}\n"
+    written[millionth] = b'{"type":"end","sum":"' + b"1" * 64 + b'"}\n'
     millionth.write_bytes(written[millionth])
-    for age, (file, octets) in enumerate(written.items()):
-        names.append({"name": file.name, "octets": len(octets), "sha256": hashlib.sha256(octets).hexdigest()})
-        os.utime(file, (time.time() - 100 + age, time.time() - 100 + age))
-    for wanted in (names[-1], None):
-        before = set(trial.folder.iterdir())
-        trial.begin()
-        trial.ends()
-        (file,) = set(trial.folder.iterdir()) - before
-        first = json.loads(file.read_text().splitlines()[0])
-        if wanted is not None:
-            hope("the file before", first["before"], wanted)
-            hope("none of further files", ["before" in json.loads(octets.splitlines()[0]) for octets in written.values()], [False] * 3)
-            file.chmod(0)
-        elif os.getuid() != 0:
-            hope("a file that can't be read", "before" in first, False)
+    hope("none of further files", ["before" in json.loads(octets.splitlines()[0]) for octets in written.values()], [False] * 3)
+    files, second = list(written), int(time.time()) - 100
+    for turn in range(len(files)):
+        for age, file in enumerate(files[turn:] + files[:turn]):
+            os.utime(file, ns=(second * 10**9, second * 10**9 + 300 * age))
+        ended, first = first_of_a_run(trial)
+        hope("the file before", first["before"], {"name": file.name, "sum": sum_of_last(written[file])})
+        ended.unlink()
+    first_of_a_run(trial)[0].chmod(0)
+    if os.getuid() != 0:
+        hope("a file that can't be read", "before" in first_of_a_run(trial)[1], False)
+
+
+def first_of_a_run(trial):
+    """Begins a run and ends it: its file, and the first line of that."""
+    before = set(trial.folder.iterdir())
+    trial.begin()
+    trial.ends()
+    (file,) = set(trial.folder.iterdir()) - before
+    return file, json.loads(file.read_text().splitlines()[0])
+
+
+def looks_again_for_the_file_before_once_there_is_a_folder(trial):
+    """Where the folder comes back some seconds after the start, the first line has the file of the run before that stands in it."""
+    trial.begin()
+    trial.ask(5)
+    trial.ends()
+    (before,) = trial.files()
+    trial.folder.rename(trial.room / "elsewhere")
+    trial.begin()
+    trial.ask(5)
+    until("the fault", lambda: trial.events("ledger-fault"))
+    time.sleep(1.5)
+    (trial.room / "elsewhere").rename(trial.folder)
+    until("the second file", lambda: len(trial.files()) == 2)
+    trial.ends()
+    (file,) = set(trial.files()) - {before}
+    hope("the file before", json.loads(file.read_text().splitlines()[0])["before"]["name"], before.name)
+
+
+def sum_of_last(octets):
+    """The sum of the last line of these octets that has its line end, if that line has one."""
+    found = re.search(rb',"sum":"([0-9a-f]{64})"\}$', octets[:octets.rfind(b"\n")].rsplit(b"\n", 1)[-1]) if b"\n" in octets else None
+    return found[1].decode() if found else None
+
+
+def first_line_of_a_run(trial):
+    """Has the program begin a run and end it, and gives its first line."""
+    return first_of_a_run(trial)[1]
+
+
+def the_tie_is_found_at_the_end_of_any_file(trial):
+    """The sum is that of the last line with a line end, however long the file is and whatever stands behind; a line end is looked for in the
+    last octets, as many as two of the longest lines have. A file without such a line is named without a sum."""
+    line = lambda digit, octets=100: b'{"type":"entry","more":"' + b"x" * (octets - 100) + b'","sum":"' + digit * 64 + b'"}'
+    name, longest = "2026-01-31-0123456789abcdef-000000.jsonl", 65_536
+    filled = lambda octets: line(b"7", 100 + octets - len(line(b"7")))
+    for wanted, octets in (
+        ("1" * 64, line(b"1") + b"\n"), ("2" * 64, line(b"1") + b"\n" + line(b"2") + b"\n"),
+        ("1" * 64, line(b"1") + b"\n" + line(b"2")), ("1" * 64, line(b"1") + b"\n" + line(b"2")[:30]), ("1" * 64, line(b"1") + b"\n" + bytes(1000)),
+        (None, line(b"1")), (None, b""), (None, bytes(300_000)), (None, line(b"1") + b"\n{}\n"), (None, line(b"1") + b"\n\n"),
+        (None, line(b"1") + b" \n"), (None, line(b"A") + b"\n"), ("7" * 64, b"x\n" + filled(longest) + b"\n" + b"y" * longest),
+        (None, b"x\n" + filled(longest + 1) + b"\n" + b"y" * longest), ("7" * 64, b"z" * 1000 + b"\n" + filled(longest) + b"\n"),
+    ):
+        file = trial.folder / name
+        file.write_bytes(octets)
+        before = first_line_of_a_run(trial)["before"]
+        hope(f"the tie of {octets[-40:]!r}", before, {"name": name} | ({"sum": wanted} if wanted else {}))
+        for made in set(trial.folder.iterdir()) - {file}:
+            made.unlink()
+
+
+def a_file_that_is_compressed_is_told(trial):
+    """Where the file of another run that was written last is compressed, the first line names none, and that is logged once."""
+    for end in (".gz", ".xz", ".zst", ".bz2"):
+        name = f"2026-01-31-0123456789abcdef-000000.jsonl{end}"
+        (trial.folder / name).write_text("x")
+        trial.log.write_text("")
+        hope("the file before", "before" in first_line_of_a_run(trial), False)
+        hope("what is told", trial.events("ledger-untied"), [f'level=warn event=ledger-untied file="{name}"'])
+        for file in trial.folder.iterdir():
+            file.unlink()
+
+
+def a_run_begins_at_once_behind_a_long_file(trial):
+    """A program that is killed half a second after its first answers, in a folder whose last file has 20 GiB of nothing, leaves its first
+    line and these entries."""
+    long = trial.folder / "2026-01-31-0123456789abcdef-000000.jsonl"
+    with long.open("wb") as file:
+        file.truncate(20 * 2**30)
+    trial.begin()
+    hope("acknowledged", trial.ask(40), 40)
+    time.sleep(0.5)
+    trial.ran.kill()
+    trial.ran.wait()
+    files = [file for file in trial.files() if file != long]
+    hope("the first line", [line["before"] for line in trial.ledger_lines(files)[:1]], [{"name": long.name}])
+    trial.sums(files)
+    trial.is_all_there("open", files)
 
 
 def tells_the_sum_each_hour(trial):
@@ -308,7 +391,9 @@ def a_name_that_is_no_text_is_told(trial):
 
 
 TESTS = [
-    writes_what_was_acknowledged, tells_its_metrics_behind_the_others, names_the_file_of_another_run_before, tells_the_sum_each_hour,
+    writes_what_was_acknowledged, tells_its_metrics_behind_the_others, names_the_file_of_another_run_before, the_tie_is_found_at_the_end_of_any_file,
+    a_file_that_is_compressed_is_told, a_run_begins_at_once_behind_a_long_file, looks_again_for_the_file_before_once_there_is_a_folder,
+    tells_the_sum_each_hour,
     writes_none_unasked, ends_a_run_with_requests_left, a_program_that_cannot_serve_leaves_no_file, is_written_within_a_tenth_of_a_second,
     is_synced_each_second, is_handed_over_before_it_is_sent, drops_are_counted, a_hundred_eighty_thousand_small_entries_wait,
     a_killed_run_is_open, a_run_that_ends_by_a_fault_is_open, a_long_ledger_is_several_files, a_name_that_is_no_text_is_told,

@@ -17,7 +17,7 @@ from tests.lib.ledgers import chained
 
 NAME = re.compile("([0-9]{4}-[0-9]{2}-[0-9]{2})-([0-9a-f]{16})-([0-9]{6})[.]jsonl")
 SUM = re.compile('"sum":"[0-9a-f]{64}"')
-TIME = re.compile(r'"time":"(\d{4}-\d\d-\d\dT\d\d:\d\d:\d\d[.]\d{3})Z"')
+TIME = re.compile(r'"(?:time|accepted)":"(\d{4}-\d\d-\d\dT\d\d:\d\d:\d\d[.]\d{3})Z"')
 SECOND_SECRET = b"home2-secret"
 # The run that lines have here until it is known how the program named its own.
 A_RUN = 0xA0B1C2D3E4F50617
@@ -45,7 +45,8 @@ class TwoLanes:
         line = {"home": its.home, "lane": lane, "serial": its.serial, "record": its.serial, "client": HERE,
                 "port": self.trial.nas.getsockname()[1], "identifier": identifier, "authenticator": asked[4:20].hex()}
         its.serial, its.record = its.serial + 1, its.record + 1
-        return {**self.run.head("entry"), **line, **words, "sent": sent.hex(), "reply": reply.hex(), "response": response.hex()}
+        head, packets = self.run.head("entry"), {"sent": sent.hex(), "reply": reply.hex(), "response": response.hex()}
+        return {**head, **line, **words, **packets, "accepted": head["time"], "sendings": 1}
 
     def pass_two(self):
         """Gives the lines of two responses, one of each lane."""
@@ -110,17 +111,17 @@ def a_line_that_is_cut_short_is_gone_on_with(trial):
     """Where a disk is full in the second entry and has room again, the file goes on where it stopped. Where it is full once more, the
     next file has that entry whole, and its first line the serials behind what the first file has."""
     empty = text(chained([Run(A_RUN, [Lane(0, "h1", b""), Lane(1, "h2", b"")]).begin()]))
-    for faults, room in (("1", len(empty) + 700), ("2", len(empty) + 700), ("1", 48)):
+    for faults, room in (("1", len(empty) + 900), ("2", len(empty) + 900), ("1", 48)):
         with two_lanes(trial, WRITE_FAULTS=faults, ROOM=str(room)) as lanes:
             (first,) = chained([lanes.run.begin()])
             entries = lanes.pass_two()
             until("they are written", lambda: lanes.trial.number("ledger_written_total") == 2)
             lanes.trial.ends()
-            whole = text([first, *entries])
+            whole = text(chained([first, *entries]))
             second = {**first, "file": 1, "lanes": [{"lane": 0, "home": "h1", "serial": 1}, {"lane": 1, "home": "h2", "serial": 0}]}
             last = text(chained([lanes.run.end_of_all()]))
-            hope("it is cut in the second entry", room == 48 or len(text([first, entries[0]])) < room < len(whole), True)
-            lanes.has_files(*([whole + last] if faults == "1" else [whole[:room], text([second, entries[1]]) + last]))
+            hope("it is cut in the second entry", room == 48 or len(text(chained([first, entries[0]]))) < room < len(whole), True)
+            lanes.has_files(*([whole + last] if faults == "1" else [whole[:room], text(chained([second, entries[1]])) + last]))
             lanes.has_failed_once()
 
 

@@ -7,6 +7,7 @@ Of a configuration it looks at the addresses, names and secrets alone.
 """
 import hashlib
 import json
+import os
 import pathlib
 import re
 import sys
@@ -31,8 +32,12 @@ OPTIONAL = WORDS | {f"{word}_octets" for word in WORDS} | {"status"}
 LEFT = HEAD | {"home", "lane", "record", "client", "port", "identifier", "authenticator", "state", "request"}
 STATES = {"queued", "outstanding", "untaken"}
 LIMITS = {"lane": 2**16, "serial": 2**63, "record": 2**64, "port": 2**16, "identifier": 2**8, "status": 2**32, "file": 2**64, "entries": 2**64,
-          "accepted": 2**64, "left": 2**64, "sendings": 2**32, "octets": 2**64}
+          "accepted": 2**64, "left": 2**64, "sendings": 2**32, "hidden": 2**32, "count": 2**64}
 SHA_256 = re.compile("[0-9a-fA-F]{64}")
+KINDS = "entry", "left", "unsent", "again"
+COUNT = HEAD | {"home", "lane", "record", "count"}
+# The end of a line, which has its sum: in lower case, and last.
+TAIL = re.compile(rb'(?s)(.*),"sum":"([0-9a-f]{64})"\}')
 # The categories of characters that are not printed as they are.
 HIDDEN = {"Cc", "Cf", "Zl", "Zp"}
 
@@ -107,9 +112,9 @@ def read_lanes(line, *forms):
         are_right(lane.keys(), lane)
 
 
-def read_request(keys, least, more, line):
+def read_request(keys, least, line):
     """What an entry and a request that was left both have."""
-    need(least <= keys <= least | OPTIONAL | more)
+    need(least <= keys <= least | OPTIONAL | {"sendings", "accepted"})
     need(not any({word, f"{word}_octets"} <= keys for word in WORDS))
     are_right(keys - {"accepted"}, line)
     need(ADDRESS.fullmatch(line["client"]) and all(int(number) < 256 for number in line["client"].split(".")))
@@ -120,15 +125,14 @@ def read_sum(line, key):
     need(type(line[key]) is str and SHA_256.fullmatch(line[key]))
 
 
-def read_sums(line):
-    """The sum of a line, and the file of another run that it names, if it has them."""
-    if "sum" in line:
-        read_sum(line, "sum")
+def read_before(line):
+    """The file of another run that a line names, if it names one. An earlier version had `octets` and `sha256` of it."""
     if "before" in line:
         before = line["before"]
-        need(type(before) is dict and set(before) == {"name", "octets", "sha256"})
-        are_right({"name", "octets"}, before)
-        read_sum(before, "sha256")
+        need(type(before) is dict and {"name"} <= set(before) <= {"name", "sum", "octets", "sha256"})
+        are_right({"name"}, before)
+        if "sum" in before:
+            read_sum(before, "sum")
 
 
 def read_line(octets):
@@ -139,31 +143,44 @@ def read_line(octets):
     except (ValueError, RecursionError):
         raise NoLine from None
     need(type(line) is dict)
-    if line.get("type") == "hidden":
-        need(set(line) == {"type", "sum"})
+    if "sum" in line:
         read_sum(line, "sum")
+    keys, kind = set(line) - {"sum"}, line.get("type")
+    if kind == "hidden":
+        need("sum" in line and keys <= {"type", "lane", "kind"} and line.get("kind", KINDS[0]) in KINDS)
+        are_right(keys & {"lane"}, line)
         return line
-    need(HEAD <= set(line))
+    need(HEAD <= keys)
     are_right(HEAD, line)
     need(re.fullmatch("[0-9a-fA-F]{16}", line["run"]) and is_time(line["time"]))
-    keys, kind = set(line), line["type"]
-    need(kind in ("begin", "entry", "left", "end"))
+    need(kind in ("begin", "end", *KINDS))
     if kind == "begin":
-        need(keys - {"sum", "before"} == HEAD | {"version", "file", "lanes"})
-        are_right({"version", "file"}, line)
-        read_sums(line)
+        need(keys - {"before", "hidden"} == HEAD | {"version", "file", "lanes"})
+        are_right({"version", "file"} | keys & {"hidden"}, line)
+        read_before(line)
         read_lanes(line, {"lane", "home", "serial"})
     elif kind == "end":
-        need(keys - {"sum"} == HEAD | {"lanes"})
-        read_sums(line)
+        need(keys - {"hidden"} == HEAD | {"lanes"})
+        are_right(keys & {"hidden"}, line)
         read_lanes(line, {"lane", "entries"}, {"lane", "entries", "accepted", "left"})
-    elif kind == "entry":
-        read_request(keys, ENTRY, set(), line)
+    elif kind in ("unsent", "again"):
+        need(keys == COUNT and line["count"])
+        are_right(keys, line)
     else:
-        read_request(keys, LEFT, {"sendings", "accepted"}, line)
+        read_request(keys, ENTRY if kind == "entry" else LEFT, line)
         accepted = line.get("accepted", line["time"])
-        need(line["state"] in STATES and type(accepted) is str and is_time(accepted))
+        need(type(accepted) is str and is_time(accepted) and (kind == "entry" or line["state"] in STATES))
     return line
+
+
+def line_sum(octets, line):
+    """The SHA-256 of what stands before the sum of a line, if nothing of that is left out, and the sum; None where it has none at its end."""
+    if line["type"] == "hidden":
+        return None, bytes.fromhex(line["sum"])
+    found = TAIL.fullmatch(octets)
+    if not found:
+        return None
+    return None if "hidden" in line else hashlib.sha256(found[1]).digest(), bytes.fromhex(found[2].decode())
 
 
 # Packets.
@@ -274,32 +291,44 @@ class Numbers:
 
 
 class Chain:
-    """The chain of a run: the sum of its lines, from the last `begin` on. There is none if that has no sum."""
+    """The chain of a run: the sum of its last line, or None if any is right behind it, and whether sums are looked at."""
 
     def __init__(self):
-        self.sum, self.next, self.hidden, self.is_bare = bytes(32), 0, 0, False
+        self.last, self.is_sealed, self.next, self.hidden, self.is_bare = bytes(32), True, 0, 0, False
 
-    def begin(self, file, told):
-        """Whether the sum of a `begin` is right; the chain goes on from it."""
-        if told is None:
-            is_right = self.next == 0 or self.sum is None
+    def fits(self, its):
+        """Whether the sum of a line is right behind the last one."""
+        digest, told = its
+        return None in (self.last, digest) or hashlib.sha256(self.last + digest).digest() == told
+
+    def begin(self, file, its):
+        """Whether the sum of a `begin` is right."""
+        if its is None:
+            is_right = self.next == 0 or not self.is_sealed
         else:
-            is_right = file > self.next or file == self.next and self.sum in (None, told)
-        self.sum, self.next = told, min(file + 1, 2**64 - 1)
-        self.is_bare = self.is_bare or told is None
+            is_right = file != self.next or not self.is_sealed or self.fits(its)
+        self.last, self.is_sealed, self.next = its and its[1], its is not None, min(file + 1, 2**64 - 1)
+        self.is_bare = self.is_bare or its is None
         return is_right
 
-    def add(self, digest):
-        if self.sum is not None:
-            self.sum = hashlib.sha256(self.sum + digest).digest()
+    def take(self, its):
+        """Whether the sum of another line is right."""
+        if not self.is_sealed:
+            return True
+        is_right = its is not None and self.fits(its)
+        self.last = its and its[1]
+        return is_right
 
 
 class Audit:
     """What is known of the runs, and what was printed."""
 
     def __init__(self, config, asked=(), sums=()):
-        self.asked, self.found, self.files, self.before, self.newest = asked, set(), {}, {}, {}
+        self.asked, self.found, self.files, self.before, self.begun = asked, set(), {}, {}, None
         self.chains, self.sums, self.kept, self.last, self.ended = {}, sums, set(), None, set()
+        self.returns, self.is_packed = False, False
+        # The sums of other runs' lines that are looked for, each with whether it was found.
+        self.ties = {}
         self.homes = {home["name"]: home["secret"].encode() for home in config["home"]}
         self.clients = {client["address"]: client["secret"].encode() for client in config["client"]}
         self.runs, self.printed = {}, []
@@ -310,7 +339,6 @@ class Audit:
 
     def lacks(self, place, name, first, last):
         self.printed.append(f"{place}: {name} gap {first} to {last}")
-        self.found.add("gap")
 
     def lane(self, run, number):
         return next((lane for lane in self.runs.get(run, []) if lane["lane"] == number), None)
@@ -344,6 +372,8 @@ class Audit:
         if reason is None and told_words(entry) != words_of(bytes.fromhex(entry["sent"])):
             reason = "WrongWords"
         if reason is not None:
+            if lane:
+                lane["wrong sent"] += reason == "WrongSent"
             return self.is_wrong(place, reason)
         lane["back"], lane["last"] = lane["back"] + (entry["time"] < lane["last"]), entry["time"]
         lane["numbers"].add(entry["record"])
@@ -391,14 +421,33 @@ class Audit:
             if lane["next"] < lane["end"]:
                 self.lacks(place, named(run, lane), lane["next"], lane["end"] - 1)
 
-    def see(self, run):
-        """Looks whether the sum that a run has now is one that was kept."""
-        chain = self.chains[run]
-        self.kept |= {it for it in self.sums if chain.sum is not None and it[1:] == (run, max(chain.next - 1, 0), chain.sum)}
+    def take_count(self, place, line):
+        """A count of what became of a response."""
+        lane = self.lane(line["run"].lower(), line["lane"])
+        if lane is None or lane["home"] != line["home"]:
+            return self.is_wrong(place, "UnknownLane")
+        numbers = lane["numbers"]
+        if line["record"] >= numbers.exact_from and line["record"] not in numbers.numbers and lane["entries"] == lane["next"]:
+            return self.is_wrong(place, "UnknownRecord")
+        lane["events"].append(None)
+
+    def expect(self, begin):
+        """Looks for the line of another run that a first line names by its sum."""
+        before = begin.get("before", {})
+        name = parts_of(before.get("name", ""))
+        if name and "sum" in before:
+            run, its = name[0], bytes.fromhex(before["sum"])
+            self.ties.setdefault((run, its), run in self.chains and self.chains[run].last == its)
+
+    def see(self, run, file, its):
+        """Takes the sum of a line of a run in this file."""
+        self.kept |= {word for word in self.sums if word[1:] == (run, file, its)}
+        if (run, its) in self.ties:
+            self.ties[run, its] = True
 
     def chain(self, place, line, octets):
         """Adds a line to the chain of its run, and judges its sum."""
-        kind, told = line["type"], bytes.fromhex(line["sum"]) if "sum" in line else None
+        kind, its = line["type"], line_sum(octets, line)
         run = self.last if kind == "hidden" else line["run"].lower()
         if kind == "begin":
             self.chains.setdefault(run, Chain())
@@ -406,26 +455,44 @@ class Audit:
         if chain is None:
             return self.is_wrong(place, "UnknownLane") if kind == "hidden" else None
         self.last = run
-        is_right = chain.begin(line["file"], told) if kind == "begin" else kind != "end" or chain.sum is None or chain.sum == told
-        self.see(run)
-        chain.add(told if kind == "hidden" else hashlib.sha256(octets + b"\n").digest())
-        chain.hidden += kind == "hidden"
-        self.see(run)
+        if kind == "begin":
+            if chain.next == line["file"] and None not in (chain.last, its):
+                self.kept |= {word for word in self.sums if word[1:] == (run, line["file"], chain.last)}
+            is_right = chain.begin(line["file"], its)
+        else:
+            is_right = chain.take(its)
+        if its is not None:
+            chain.hidden += its[0] is None
+            if chain.is_sealed:
+                self.see(run, max(chain.next - 1, 0), its[1])
+        if kind == "hidden":
+            lane = self.lane(run, line.get("lane"))
+            if lane and line.get("kind") in lane["hidden"]:
+                lane["hidden"][line["kind"]] += 1
         if not is_right:
             self.is_wrong(place, "WrongSum")
 
     def take_begin(self, place, begin):
-        fresh = {"gap": None, "end": None, "told": None, "entries": 0, "left": 0, "not judged": 0, "last": "", "back": 0}
+        fresh = {"gap": None, "end": None, "told": None, "entries": 0, "left": 0, "not judged": 0, "last": "", "back": 0, "wrong sent": 0}
         run, file = begin["run"].lower(), begin["file"]
-        self.head = self.head or (run, file)
+        if self.begun not in (None, run):
+            self.printed.append(f"{place}: run {run} behind another run")
+        self.begun = run
         first, following = self.files.get(run, (file, file))
+        if run in self.runs:
+            if file < following:
+                self.is_wrong(place, "FileAgain")
+            elif not goes_on(self.runs[run], begin["lanes"]):
+                self.is_wrong(place, "OtherLanes")
         if file > following:
             self.printed.append(f"{place}: run {run} files {following} to {file - 1} missing")
             self.found.add("file")
         self.files[run] = first, max(following, min(file + 1, 2**64 - 1))
         if run not in self.runs:
             self.before[run] = begin.get("before")
-            self.runs[run] = [{**lane, **fresh, "numbers": Numbers(), "events": [], "next": lane["serial"]} for lane in begin["lanes"]]
+            self.runs[run] = [{**lane, **fresh, "numbers": Numbers(), "events": [], "next": lane["serial"], "hidden": {"entry": 0, "left": 0}}
+                              for lane in begin["lanes"]]
+            self.expect(begin)
 
     def take(self, place, line, octets):
         kind = line["type"]
@@ -436,13 +503,17 @@ class Audit:
             self.take_entry(place, line)
         elif kind == "left":
             self.take_left(place, line)
+        elif kind in ("unsent", "again"):
+            self.take_count(place, line)
         elif kind == "end":
             self.take_end(place, line)
 
     def read(self, file, octets):
         """Reads the lines of a file."""
         *lines, last = octets.split(b"\n")
-        followers, self.head = [*lines[1:], last], None
+        followers, self.begun = [*lines[1:], last], None
+        self.returns |= any(line[: MOST_LINE + 1].endswith(b"\r") for line in [*lines, last])
+        self.is_packed |= octets[:2] == b"\x1f\x8b"
         for number, (line, behind) in enumerate(zip(lines, followers), 1):
             place = f"{shown(file)}:{number}"
             try:
@@ -454,10 +525,16 @@ class Audit:
                     self.is_wrong(place, "NotEntry")
         if last:
             self.printed.append(f"{shown(file)}:{len(lines) + 1}: torn")
-        if self.head is not None:
-            run, number = self.head
-            if number >= self.newest.get(run, (0, b""))[0]:
-                self.newest[run] = number, octets
+
+    def look_ahead(self, octets):
+        """Reads the first line of a file, for the line of another run that it names."""
+        line, end, _ = octets.partition(b"\n")
+        try:
+            first = read_line(line) if end else {}
+        except NoLine:
+            return
+        if first.get("type") == "begin":
+            self.expect(first)
 
     def end(self):
         """Tells of each lane, and gives the status."""
@@ -467,10 +544,26 @@ class Audit:
             for lane in lanes:
                 self.tell(run, lane)
             self.tell_of_all(run)
+            untied = [other for other in self.runs if self.before[other] is None and not self.files[other][0]]
+            if "--all" in self.asked and run in untied[1:]:
+                self.printed.append(f"run {run} untied")
+                self.found.add("nothing")
         for kept in self.sums:
             if kept not in self.kept:
                 self.is_wrong(kept[0], "WrongSum")
         return next((status for finding, status in STATUSES.items() if finding in self.found), 0)
+
+    def hints(self):
+        """What may be the cause where lines are wrong alike."""
+        if self.returns:
+            yield "hint: line ends with a carriage return"
+        if self.is_packed:
+            yield "hint: file is compressed with gzip"
+        for run, lanes in self.runs.items():
+            for lane in lanes:
+                if lane["wrong sent"] and not lane["entries"]:
+                    yield f"hint: {named(run, lane)}: each entry is WrongSent; is the secret in CONFIG the one of its time?"
+                    return
 
     def tell(self, run, lane):
         """Tells of a lane."""
@@ -487,7 +580,8 @@ class Audit:
             verdict = "open"
         else:
             verdict = "unaccounted" if not is_settled(lane) else "part" if late or any(unknown.values()) else "whole"
-        self.found.add({"whole": "whole", "part": "whole", "unaccounted": "gap"}.get(verdict, verdict.split()[0]))
+        if not ("--partial" in self.asked and verdict.startswith(("gap", "unaccounted")) and is_covered(lane)):
+            self.found.add({"whole": "whole", "part": "whole", "unaccounted": "gap"}.get(verdict, verdict.split()[0]))
         if late and not {"--from", "--partial"} & set(self.asked) or any(unknown.values()) and "--partial" not in self.asked:
             self.found.add("part")
         counts = f"from {lane['serial']} entries {lane['entries']} not judged {lane['not judged']}"
@@ -515,12 +609,32 @@ class Audit:
                 self.found.add("nothing")
 
     def has(self, before):
-        """Whether the file that a line names was read: the last one of its run, of as many octets, and with `--all` of that SHA-256."""
-        found = re.fullmatch(r"(?s:.*)([0-9a-fA-F]{16})-(\+?[0-9]+)\.jsonl", before["name"])
-        number, octets = self.newest.get(found[1].lower(), (None, b"")) if found else (None, b"")
-        if number is None or number != int(found[2]) or len(octets) != before["octets"]:
+        """Whether the line that a run names by its sum was read; without that, whether the file is the last one of its run that was."""
+        found = parts_of(before["name"])
+        if found is None:
             return False
-        return "--all" not in self.asked or hashlib.sha256(octets).hexdigest() == before["sha256"].lower()
+        if "sum" in before:
+            return self.ties[found[0], bytes.fromhex(before["sum"])]
+        return found[0] in self.files and self.files[found[0]][1] == min(found[1] + 1, 2**64 - 1)
+
+
+def parts_of(name):
+    """The run and the number of a file of this name."""
+    found = re.fullmatch(r"(?s:.*)([0-9a-fA-F]{16})-(\+?[0-9]+)\.jsonl", name)
+    return (found[1].lower(), int(found[2])) if found and int(found[2]) < 2**64 else None
+
+
+def goes_on(lanes, starts):
+    """Whether the lanes that a later file names are those of the run."""
+    return [(lane["lane"], lane["home"]) for lane in lanes] == [(start["lane"], start["home"]) for start in starts]
+
+
+def is_covered(lane):
+    """Whether lines that are left out may be all that is missing of a lane."""
+    missing = max(lane["next"], lane["end"] or 0) - lane["serial"] - lane["entries"]
+    if missing > 0:
+        return missing <= lane["hidden"]["entry"]
+    return bool(lane["told"] and lane["hidden"]["left"]) and lane["told"][1] - lane["left"] <= lane["hidden"]["left"]
 
 
 def is_contradicted(lane):
@@ -587,12 +701,15 @@ def main(words):
     if sums is None or len(given) < 2 or len(asked) != len(set(asked)) or any(word.startswith("-") for word in given):
         print(USAGE, file=sys.stderr)
         return 1
-    audit, fault = None, None
+    audit, fault, hints = None, None, []
     try:
         audit = Audit(configured(given[0]), asked, sums)
         for path in given[1:]:
+            if pathlib.Path(path).is_file() and os.access(path, os.R_OK):
+                audit.look_ahead(pathlib.Path(path).read_bytes())
+        for path in given[1:]:
             audit.read(path, read_file(path))
-        status = audit.end()
+        status, hints = audit.end(), list(audit.hints())
     except Ends as ended:
         fault, status = ended.args
     try:
@@ -602,8 +719,8 @@ def main(words):
     except OSError:
         sys.stdout = None
         return 4
-    if fault is not None:
-        print(fault, file=sys.stderr)
+    for line in hints if fault is None else [fault]:
+        print(line, file=sys.stderr)
     return status
 
 

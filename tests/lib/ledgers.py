@@ -125,34 +125,48 @@ def text(lines):
     return "".join(f"{line if isinstance(line, str) else json.dumps(line, **how)}\n" for line in lines)
 
 
-def digest(line):
-    """The SHA-256 of a line, with its line end."""
-    return hashlib.sha256(text([line]).encode("utf-8", "surrogateescape")).digest()
+def body(line):
+    """A line without its sum and its last brace, as octets."""
+    return text([{key: value for key, value in line.items() if key != "sum"}]).encode("utf-8", "surrogateescape")[:-2]
 
 
-def hidden(line):
-    """What stands in the place of a line that is left out."""
-    return {"type": "hidden", "sum": digest(line).hex()}
+def sum_after(before, octets):
+    """The sum of a line of this body behind a line of this sum."""
+    return hashlib.sha256(before + hashlib.sha256(octets).digest()).digest()
+
+
+def hidden(line, **keys):
+    """What stands in the place of a line that is left out; its lane and its kind may be told."""
+    return {"type": "hidden", **keys, "sum": line["sum"]}
+
+
+def told_hidden(line):
+    """The same with its lane and its kind."""
+    return hidden(line, lane=line["lane"], kind=line["type"])
 
 
 def sum_of(lines, before=bytes(32)):
-    """The sum behind lines of a run, with this sum before them. What was cut short, which is a text here, is not in it."""
-    for line in lines:
-        if isinstance(line, dict):
-            before = hashlib.sha256(before + (bytes.fromhex(line["sum"]) if line["type"] == "hidden" else digest(line))).digest()
-    return before
+    """The sum of the last one of these lines, or this one if there is none. What was cut short, which is a text here, has none."""
+    sums = [line["sum"] for line in lines if isinstance(line, dict)]
+    return bytes.fromhex(sums[-1]) if sums else before
 
 
 def chained(lines, before=bytes(32)):
-    """The lines of a run, with the sum before each line that begins a file or ends the run."""
+    """The lines of a run, each with its sum, the last of its keys; before the first one is this sum. One that stands for a line that is
+    left out has its own."""
     made = []
     for line in lines:
-        if isinstance(line, dict) and line["type"] in ("begin", "end"):
-            lanes = line["lanes"]
-            line = {**{key: value for key, value in line.items() if key != "lanes"}, "sum": before.hex(), "lanes": lanes}
+        if isinstance(line, dict):
+            if line["type"] != "hidden":
+                line = {**{key: value for key, value in line.items() if key != "sum"}, "sum": sum_after(before, body(line)).hex()}
+            before = bytes.fromhex(line["sum"])
         made.append(line)
-        before = sum_of([line], before)
     return made
+
+
+def bare(lines):
+    """Lines without their sums."""
+    return [{key: value for key, value in line.items() if key != "sum"} if isinstance(line, dict) else line for line in lines]
 
 
 EXAMPLE = TOP / "examples" / "one-home.jsonl"

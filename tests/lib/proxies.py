@@ -8,6 +8,7 @@ import signal
 import subprocess
 import time
 
+from tests.lib.always import watch_counters
 from tests.lib.model import read
 from tests.lib.packets import ACCOUNTING_REQUEST, STATUS_SERVER, answer, reply, request, status, user_name
 from tests.lib.starting import TOP, Server, configuration, configured, environment
@@ -87,6 +88,7 @@ class Proxy:
         given = {"stdin": subprocess.PIPE, "stdout": subprocess.PIPE, "env": environment()} | options
         with self.log.open("ab") as log:
             self.ran = subprocess.Popen([*before, self.program, "run", self.file], **({"stderr": log} | given))
+        watch_counters(given["env"].get("RAD_PROXY_COUNTERS"), self.ran)
         return self.ran
 
     def listens(self):
@@ -258,6 +260,7 @@ class Service:
                      "start_new_session": True} | options
             made = subprocess.Popen([self.serve, self.file], **given)
         self.started.append(made)
+        watch_counters(given["env"].get("RAD_PROXY_COUNTERS", str(self.run / "counters")), made)
         if wait:
             until("it listens", lambda: "listening" in self.printed.read_text())
         return made

@@ -2,6 +2,7 @@
 import contextlib
 import os
 import pathlib
+import shlex
 import subprocess
 import threading
 import time
@@ -127,11 +128,11 @@ class Asking:
     def restarting(self, one):
         """What restarts this one: it is open then, and the file `out` is gone, as `serve` has it."""
         script = self.room / f"way-{one.folder.name}"
-        script.write_text(f"#!/bin/sh\necho restart >>{script}.calls\nrm -f {one.folder}/out\n")
-        script.chmod(0o755)
         calls = pathlib.Path(f"{script}.calls")
+        script.write_text(f"#!/bin/sh\necho restart >>{shlex.quote(str(calls))}\nrm -f {shlex.quote(str(one.folder / 'out'))}\n")
+        script.chmod(0o755)
         threading.Thread(target=self.open_again, args=(one, calls), daemon=True).start()
-        return {"RAD_PROXY_RESTART": str(script)}, calls
+        return {"RAD_PROXY_RESTART": shlex.quote(str(script))}, calls
 
     def open_again(self, one, calls):
         while not one.is_over and not calls.exists():

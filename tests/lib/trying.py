@@ -7,6 +7,8 @@ import sys
 import tempfile
 import traceback
 
+from tests.lib.always import told_always
+
 # Of a bound of time the best of so many tries counts, since a machine may have much else to do.
 TRIES = 5
 
@@ -37,7 +39,8 @@ def best(tried, is_kept):
 
 
 def conclude(passed, failed):
-    """Ends the script. The last line is `N passed, M failed`."""
+    """Ends the script. The last line is `N passed, M failed`; what holds in every script and did not hold is a failure too."""
+    failed += told_always()
     print(f"{passed} passed, {failed} failed")
     sys.exit(1 if failed else 0)
 

@@ -1,12 +1,15 @@
 """UDP sockets, and waits for what has to come."""
 import contextlib
 import ctypes
+import itertools
 import os
 import pathlib
 import random
 import signal
 import socket
 import time
+
+from tests.lib.always import Ear
 
 HERE = "127.0.0.1"
 # How many seconds are waited for what has to come, since a slow machine is no fault of the program, and how many from look to look.
@@ -22,8 +25,8 @@ BUFFERS = tuple(2 * min(1 << 20, int(pathlib.Path("/proc/sys/net/core", name).re
 
 
 def bound(address=HERE, port=0, patience=PATIENCE):
-    """A UDP socket that waits so many seconds for a datagram."""
-    made = socket.socket(socket.AF_INET, socket.SOCK_DGRAM)
+    """A UDP socket that waits so many seconds for a datagram, which has to be a packet."""
+    made = Ear(socket.AF_INET, socket.SOCK_DGRAM)
     made.bind((address, port))
     made.settimeout(patience)
     return made
@@ -49,9 +52,9 @@ def free_port():
 
 
 @contextlib.contextmanager
-def flooded(*places, source=HERE, count=3):
-    """Has so many processes send garbage to these addresses and ports without end."""
-    children = [flooding(places, source) for _ in range(count)]
+def flooded(*places, source=HERE, count=3, octets=(bytes(20),)):
+    """Has so many processes send these octets, or garbage, to these addresses and ports without end."""
+    children = [flooding(places, source, octets) for _ in range(count)]
     try:
         yield
     finally:
@@ -60,16 +63,16 @@ def flooded(*places, source=HERE, count=3):
             os.waitpid(child, 0)
 
 
-def flooding(places, source):
+def flooding(places, source, octets):
     """A process that does so."""
     child = os.fork()
     if child:
         return child
     with contextlib.suppress(BaseException), bound(source) as stranger:
         while True:
-            for place in places:
+            for each, place in itertools.product(octets, places):
                 with contextlib.suppress(OSError):
-                    stranger.sendto(bytes(20), place)
+                    stranger.sendto(each, place)
     os._exit(0)
 
 

@@ -12,6 +12,7 @@ import re
 import sys
 
 from tests.lib import FROM_NAS, TOP, WORDS, ledgers, of_lanes, of_services
+from tests.lib.spool import segments
 
 
 def of_ledgers():
@@ -40,10 +41,12 @@ def of_ledgers():
         words = {**ledgers.worded("realm", realm), **ledgers.worded("session", forms[(at + 3) % len(forms)])}
         lines += [{**ends.head("entry"), **least, **words, **empty}]
     first, last = run.begin(), run.end_of_all()
-    before = {"name": "2026-01-30-0123456789abcdef-000007.jsonl", "octets": 2**64 - 1, "sha256": bytes(range(224, 256)).hex()}
-    bound = ledgers.chained([first, last], bytes(range(32)))
-    lanes = bound[0].pop("lanes")
-    lines += [*bound[1:], {**bound[0], "lanes": lanes}, {**bound[0], "before": before, "lanes": lanes}]
+    head, lanes = {key: value for key, value in first.items() if key != "lanes"}, {"lanes": first["lanes"]}
+    for more in ({}, {"sum": bytes(range(224, 256)).hex()}):
+        before = {"name": "2026-01-30-0123456789abcdef-000007.jsonl", **more}
+        lines += ledgers.chained([{**head, "before": before, **lanes}, last], bytes(range(32)))
+    entry = {**ends.head("entry"), **least, **empty, "accepted": "2026-01-31T00:00:00.125Z", "sendings": 2**32 - 1}
+    lines += ledgers.chained([first, entry], bytes(range(32)))
     return {"LINES": [ledgers.text([line])[:-1] for line in lines]}
 
 
@@ -51,6 +54,7 @@ def made():
     """What the tests of each crate expect, by the names that it has there."""
     return {
         "library_tests": {**of_lanes(), **of_services(), **of_ledgers()},
+        "spool_files": segments.of_segments(),
     }
 
 

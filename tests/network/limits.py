@@ -103,7 +103,8 @@ def a_drain_of_sixty_four_lanes_drains_each(program, folder):
         stage.nas.ask(f"h{HOMES - 1}")
         until("the last one is down", lambda: values(stage, "home_up") == [1] * (HOMES - 1) + [0])
         hope("the state", [line.split()[3] for line in stage.say(b"state", HOMES)], ["up"] * (HOMES - 1) + ["down"])
-        stage.say(b"drain", HOMES)
+        for which in ("first", "second", "third"):
+            hope(f"the {which} drain", stage.say(b"drain", HOMES), [f"drain: {lane} {int(lane == HOMES - 1)}" for lane in range(HOMES)])
         hope("the modes", [line.split()[4] for line in stage.say(b"state", HOMES)], ["done"] * (HOMES - 1) + ["draining"])
         for lane in (0, 31, 32, HOMES - 1):
             stage.nas.ask(f"h{lane}")

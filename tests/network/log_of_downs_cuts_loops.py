@@ -25,6 +25,7 @@ class Trial(trying.Trial):
         self.tell_of_homes()
         self.tell_of_cuts("info")
         self.tell_of_cuts("debug")
+        self.tell_of_cuts_of_each_lane()
         self.tell_of_realms()
         self.tell_of_loops()
         self.tell_of_a_chain()
@@ -79,11 +80,11 @@ class Trial(trying.Trial):
         self.goes_up(proxy, "dead", "down_wait over")
         proxy.end()
 
-    def serve(self, proxy, home, count):
+    def serve(self, proxy, home, count, name="quick"):
         """Has so many requests answered, one after the other, and gives how many seconds that took."""
         start = time.monotonic()
         for _ in range(count):
-            self.ask(proxy, b"bob@quick.example")
+            self.ask(proxy, f"bob@{name}.example".encode())
             home.came.clear()
             home.hear(1.0)
             for packet, sender in home.came:
@@ -107,6 +108,17 @@ class Trial(trying.Trial):
         self.see("the counter has as many", proxy.counter("cut_total") == cut, proxy.counter("cut_total"))
         is_each = sum(int(pairs["count"]) for pairs in each) == cut and len(each) >= CUT_REQUESTS // CUT_BOOK / 2
         self.see(f"at {level} each is a line or none is", is_each if level == "debug" else not each, len(each))
+
+    def tell_of_cuts_of_each_lane(self):
+        """The book of each of five lanes is cut, the last ones' too, and each is told by its name."""
+        homes = {f"home{lane}": Home() for lane in range(5)}
+        limits = f"book = {CUT_BOOK}\nspan = 0\nfirst_wait = 60000\n"
+        proxy = self.proxy("lanes", {name: (home.port, limits) for name, home in homes.items()})
+        for name, home in homes.items():
+            self.serve(proxy, home, 2 * CUT_BOOK, name)
+        for name in homes:
+            self.see("its cuts are told", is_so(lambda: proxy.lines("cut", name), 3), name)
+        proxy.end()
 
     def tell_of_realms(self):
         """Requests whose realm leads nowhere: the sum names the last one's."""
@@ -148,14 +160,15 @@ class Trial(trying.Trial):
 
     def tell_of_a_chain(self):
         """A request with one Proxy-State of this form, as behind another proxy, is told at `info`, or at `warn` where realms that are not
-        listed lead on; one with none is not."""
-        for level, other in (("info", None), ("warn", "quick")):
-            proxy = self.proxy(f"chain-{level}", {"quick": (Home().port, "")}, other=other)
+        listed lead on; one with two is told at `warn`, and one with none is not."""
+        marks = mark(3, 77), mark(3, 77) + mark(2, 9)
+        for level, other, states in (("info", None, 1), ("warn", "quick", 1), ("warn", None, 2)):
+            proxy = self.proxy(f"chain-{level}-{states}", {"quick": (Home().port, "")}, other=other)
             self.ask(proxy, b"bob@quick.example", attribute(PROXY_STATE, b"abc"))
-            self.ask(proxy, b"bob@quick.example", mark(3, 77))
+            self.ask(proxy, b"bob@quick.example", marks[states - 1])
             self.see("it is told", is_so(lambda: proxy.lines("marked")))
             told = proxy.lines("marked")
-            right = {"level": level, "home": "quick", "count": "1", "proxy_states": "1", "client": HERE}
+            right = {"level": level, "home": "quick", "count": "1", "proxy_states": str(states), "client": HERE}
             self.see("it is told as one", len(told) == 1 and right.items() <= told[0].items(), told)
             proxy.end()
 

@@ -32,7 +32,7 @@ from concurrent.futures import ThreadPoolExecutor
 from dataclasses import dataclass
 
 from tests.lib import (CLASS, HERE, NAS_SECRET, NOTHING_LEFT, SECRET, Home, Proxy, Refuser, Server, Stage, answer, answered, attribute, best,
-                       bound, built, configured, free_port, hope, is_so, loads, read, request, request_of_nas, status, try_in_folders,
+                       bound, built, configured, flooded, free_port, hope, is_so, loads, read, request, request_of_nas, status, try_in_folders,
                        until, user_name)
 
 REQUESTS = 60_000
@@ -399,10 +399,10 @@ class Narrow(Ringed):
 
     CLIENT = f'[[client]]\naddress = "{OTHER}"\nsecret = "{SECRET.decode()}"\n'
 
-    def __init__(self, program, work, milliseconds, linger=0):
+    def __init__(self, program, work, milliseconds, linger=0, **more):
         self.slow, self.quick = bound(), bound(OTHER)
         port = str(self.slow.getsockname()[1])
-        variables = {"NARROW_FIRST": port, "NARROW_LAST": port, "NARROW_ROOM": str(ROOM), "NARROW_MILLISECONDS": str(milliseconds)}
+        variables = {"NARROW_FIRST": port, "NARROW_LAST": port, "NARROW_ROOM": str(ROOM), "NARROW_MILLISECONDS": str(milliseconds), **more}
         super().__init__(program, work, f"window = 254\nqueue = 2000\n{self.CLIENT}", linger=linger, variables=variables)
 
     def __exit__(self, *words):
@@ -466,6 +466,30 @@ def keep_no_longer(program, work):
         hope("what is lost", narrow.lost(), ROOM + 2 * KEPT - len(told))
 
 
+def keep_beside_what_is_sent(program, work):
+    """What is kept is sent once the interface is quick, though others have responses all the time: the last of it, in order."""
+    def came():
+        with Narrow(program, work, 60_000, WIDE_AFTER="800") as narrow:
+            probes = [status(identifier, bytes(16), b"", b"", SECRET) for identifier in range(16)]
+            responses = narrow.fill(ROOM + KEPT)
+            with flooded(narrow.proxy.listen, source=OTHER, octets=probes):
+                told = narrow.rest(OLD)
+            hope("their order", told, [each for each in responses if each in set(told)])
+            return len(told)
+
+    best(came, lambda count: count == ROOM + KEPT)
+
+
+def count_what_is_refused_later(program, work):
+    """Of what is kept, what the system then refuses for another reason than a full buffer is lost and counted."""
+    with Narrow(program, work, 60_000, WIDE_AFTER="500", WIDE_REFUSED="3") as narrow:
+        responses = narrow.fill(ROOM + KEPT)
+        told = narrow.rest(OLD)
+        hope("what comes", told, responses[:ROOM] + responses[ROOM + 3:])
+        narrow.proxy.end()
+        hope("what is lost", narrow.lost(), 3)
+
+
 class Crowded(Ringed):
     """The program, with many NASes behind an interface that takes nothing at first, and everything after some milliseconds."""
 
@@ -474,6 +498,9 @@ class Crowded(Ringed):
         clients = "".join(f'[[client]]\naddress = "{nas.getsockname()[0]}"\nsecret = "{SECRET.decode()}"\n' for nas in self.nases)
         variables = {"NARROW_FIRST": "1", "NARROW_LAST": "65535", "NARROW_ROOM": "1", "NARROW_MILLISECONDS": "60000", "WIDE_AFTER": "1500"}
         super().__init__(program, work, f"window = 254\nqueue = 5000\n{clients}", linger=20_000, variables=variables)
+
+    def have_come(self, count):
+        until(f"{count} are at the home server", lambda: len(self.homes[0].came) == count, apart=0.001)
 
     def __exit__(self, *words):
         super().__exit__(*words)
@@ -505,6 +532,27 @@ def keep_so_many_in_all(program, work):
 
     kept = ALL + 1
     best(shares, lambda seen: seen[0] == kept and seen[1] <= 2 and seen[2] == MANY * KEPT - kept)
+
+
+def lose_their_own_at_a_tie(program, work):
+    """Where one more is kept than may be, and two NASes have the most, that one loses its own oldest that got one more."""
+    counts = [1, KEPT - 2, KEPT - 1, *[KEPT - 2] * (ALL // (KEPT - 2) - 2)]
+    counts.append(ALL + 1 - sum(counts))
+
+    def others():
+        with Crowded(program, work) as crowded:
+            asked, last = [crowded.requests(count) for count in counts], crowded.requests(1)
+            for place, (nas, octets) in enumerate(zip(crowded.nases, asked)):
+                crowded.ask(nas, octets)
+                crowded.have_come(sum(counts[:place + 1]))
+            crowded.ask(crowded.nases[1], last)
+            time.sleep(OLD)
+            asked[1] = asked[1][1:] + last
+            wanted = [[answer(octets, octets[1], b"", SECRET) for octets in requests] for requests in asked]
+            found = [list(iter(lambda: rest_of(nas), None)) for nas in crowded.nases[:len(counts)]]
+            return [place for place, pair in enumerate(zip(found, wanted)) if pair[0] != pair[1]]
+
+    best(others, lambda seen: not seen)
 
 
 def rest_of(socket):
@@ -541,7 +589,7 @@ def keep_each_before_it_is_sent(program, folder):
 
 
 TESTS = (load_both, cut_beside_another_lane, keep_order, pass_one_place, serve_beside_a_full_ring, end_at_a_full_ring, go_on_after_a_stop, take_no_longer,
-         pass_a_slow_interface, keep_no_longer, keep_so_many_in_all, keep_each_before_it_is_sent)
+         pass_a_slow_interface, keep_no_longer, keep_beside_what_is_sent, count_what_is_refused_later, keep_so_many_in_all, lose_their_own_at_a_tie, keep_each_before_it_is_sent)
 
 
 if __name__ == "__main__":

@@ -7,6 +7,7 @@ and tells where it leaves a test out for want of them. The variable STARTS says 
 a hundred take some twenty seconds. The last line is `N passed, M failed`.
 """
 import contextlib
+import errno
 import json
 import mmap
 import os
@@ -24,7 +25,9 @@ from tests.lib import (BUFFERS, HOME_SECRET, NAS_SECRET, Proxy, Server, answer, 
 
 PORT, HOME_PORT = 1813, 2813
 SERVED = ["127.0.0.1", "127.0.0.5", "10.77.0.1", "10.77.0.2"]
-NASES = ["10.77.1.1", "10.77.1.2", "10.77.1.3", "10.77.1.4"]
+NASES = ["10.77.1.3", "10.77.1.1", "10.77.1.4", "10.77.1.2"]
+# So many ports of a client that some share a row of eight, of 8,192.
+PORTS = 500
 BURST = 400
 SOCKETS, KNOWN = 256, 512
 CLOSE_ON_EXEC = 0o2000000
@@ -48,12 +51,12 @@ def add(*addresses):
 class Service(Proxy):
     """The program at all addresses, with one home server, which this script is, and NASes."""
 
-    def __init__(self, program, folder, before=()):
+    def __init__(self, program, folder, before=(), variables=()):
         self.home = bound("127.0.0.1", HOME_PORT)
         listen, server = ("0.0.0.0", PORT), Server("h", HOME_PORT, "first_wait = 60000\n")
         super().__init__(program, folder, configured(f"0.0.0.0:{PORT}", [server], NASES, default="h"), listen)
         self.asked, self.seen = 0, set()
-        self.start(before, env=os.environ)
+        self.start(before, env=os.environ | dict(variables))
         hope("the first line", self.ran.stdout.readline(), f"listening 0.0.0.0:{PORT}\n".encode())
 
     def __enter__(self):
@@ -119,6 +122,20 @@ def test_ports_of_a_client(program, folder):
         for nas, address, octets, forwarded in reversed(asked):
             service.reply(forwarded)
             hope(f"asked {address}", service.answered_from(nas, octets), address)
+
+
+def test_ports_that_share_a_row(program, folder):
+    """The same of so many ports of one client that some are kept in one place: all asked before the first is answered."""
+    with Service(program, folder) as service, contextlib.ExitStack() as stack:
+        nases = [stack.enter_context(bound(NASES[0])) for _ in range(PORTS)]
+        asked = []
+        for number, nas in enumerate(nases):
+            asked.append(service.send(nas, SERVED[number % len(SERVED)]))
+            until("it is received", is_all_received, apart=0.001)
+        for _ in nases:
+            service.reply(service.forwarded())
+        found = [service.answered_from(nas, octets) for nas, octets in zip(nases, asked)]
+        hope("answered from", found, [SERVED[number % len(SERVED)] for number in range(PORTS)])
 
 
 def test_last_datagram(program, folder):
@@ -285,10 +302,18 @@ def test_address_is_taken(program, folder):
         hope("the last line", log[-1], f"socket: 0.0.0.0:{PORT}")
 
 
-def serves(program, folder):
-    """Whether the program comes to serve."""
+def test_address_is_taken_meanwhile(program, folder):
+    """Where one of the addresses is taken while the others are bound, the program does not start, and says which."""
+    library = built(folder, "failing_calls")
+    for place in range(1, len(SERVED) + len(NASES) + 2):
+        given = {"LD_PRELOAD": library, "FAIL_COUNTS": f"{folder}/counts", "FAIL_KIND": "bind", "FAIL_AT": str(place), "FAIL_ERROR": str(errno.EADDRINUSE)}
+        hope(f"bind {place}: it serves", serves(program, folder, given), False)
+
+
+def serves(program, folder, variables=()):
+    """Whether the program comes to serve, in an environment with these variables too."""
     try:
-        with Service(program, folder):
+        with Service(program, folder, variables=variables):
             return True
     except AssertionError as error:
         if "the first line" not in str(error):

@@ -23,6 +23,22 @@ STRANGER = 65534
 ENDS = (signal.SIGHUP, signal.SIGINT, signal.SIGTERM)
 # At how many moments a restart is stopped, over how many seconds they are spread, and how many run at once.
 MOMENTS, SPREAD, AT_ONCE = 40, 4.0, 4
+# The same where those who ask begin late, and take long for each step; and what makes it so, in the program that asks.
+SLOW_MOMENTS, SLOW_SPREAD = 28, 7.0
+SLOW_STEPS = """
+time.sleep(0.5)
+
+
+def slow(call):
+    def called(*words, **named):
+        time.sleep(0.1)
+        return call(*words, **named)
+    return called
+
+
+for name in ("open", "mkfifo", "rename", "unlink", "read", "write"):
+    setattr(os, name, slow(getattr(os, name)))
+"""
 
 
 def names_in(folder):
@@ -53,28 +69,75 @@ def out_is_taken_away_where_it_is_stopped_before_the_drain(stage):
 
 
 def stopped_at(stage, number, moment):
-    """Stops a restart at a moment, and sees what it leaves."""
+    """Stops a restart at a moment, and sees what it leaves once nothing that it started runs any more."""
     one = stage.stand_in(f"at {number.name} {moment:.3f}")
     way, calls = stage.restarting(one)
     asker = stage.begin(one, "restart", "--force", "--out", "1", variables=way, preexec_fn=begins_by_default)
     time.sleep(moment)
     asker.send_signal(number)
     _, told = asker.communicate(timeout=PATIENCE)
-    place = f"{number.name} at {moment:.3f} s, status {asker.returncode}, {told[-200:]!r}"
+    until("the end of what it started", lambda: not processes_in(one.folder))
+    is_restarted = calls.exists()
+    if is_restarted:
+        until("it is open again", lambda: one.mode == "open")
     is_drained = one.mode != "open"
-    wanted = ["out"] if is_drained else []
-    with contextlib.suppress(AssertionError):
-        until("the end", lambda: names_in(one.folder) == wanted and (one.mode != "open") == is_drained)
-    hope(f"{place}: what is left", names_in(one.folder), ["out"] if one.mode != "open" else [])
-    return is_drained, calls.exists()
+    place = f"{number.name} at {moment:.3f} s, status {asker.returncode}, {told[-200:]!r}"
+    hope(f"{place}: what is left", names_in(one.folder), ["out"] if is_drained else [])
+    return is_drained, is_restarted
+
+
+def stop_at_moments(stage, signals, moments, spread):
+    """Stops a restart by each of the signals in turn: which there are of those that drain or not, and are restarted or not."""
+    moments = [(signals[at % len(signals)], spread * at / moments) for at in range(moments)]
+    with ThreadPoolExecutor(AT_ONCE) as pool:
+        return set(pool.map(lambda pair: stopped_at(stage, *pair), moments))
 
 
 def no_moment_of_a_stop_leaves_something(stage):
-    """TERM, HUP or KILL at any moment of a restart leaves `out` only where the proxy drains, and nothing else; both are met."""
-    moments = [((signal.SIGTERM, signal.SIGHUP, signal.SIGKILL)[at % 3], SPREAD * at / MOMENTS) for at in range(MOMENTS)]
-    with ThreadPoolExecutor(AT_ONCE) as pool:
-        found = list(pool.map(lambda pair: stopped_at(stage, *pair), moments))
-    need(any(not is_restarted for _, is_restarted in found), "each was restarted:", found)
+    """TERM, HUP or KILL at any moment of a restart leaves `out` only where the proxy drains, and nothing else."""
+    signals = (signal.SIGTERM, signal.SIGHUP, signal.SIGKILL)
+    need({(False, False), (False, True)} <= stop_at_moments(stage, signals, MOMENTS, SPREAD), "each was restarted, or none")
+
+
+def no_moment_of_a_stop_leaves_something_where_each_step_is_slow(stage):
+    """The same where each step of those who ask takes a while, so that a moment falls between any two."""
+    path = stage.room / "usr/libexec/rad_proxy/controlling/asking.py"
+    head, names, rest = path.read_text().partition("\nclass Ends(")
+    path.write_text(head + SLOW_STEPS + "\n" + names + rest)
+    found = stop_at_moments(stage, (signal.SIGKILL, signal.SIGTERM), SLOW_MOMENTS, SLOW_SPREAD)
+    hope("what is met", found, {(False, False), (True, False), (False, True)})
+
+
+def another_ones_restart_is_not_undone(stage):
+    """Where a restart is killed whose proxy stalls, and another one begins meanwhile, no moment has a drained proxy without `out`: what the
+    first one's end removes, the second makes again."""
+    one = stage.stand_in()
+    way, calls = stage.restarting(one)
+    first = stage.begin(one, "restart", "--force", "--out", "30", variables=way)
+    until("the file out", (one.folder / "out").exists)
+    one.reads = False
+    first.kill()
+    first.communicate(timeout=PATIENCE)
+    until("the fifo of its look", (one.folder / "answer").exists)
+    one.outstanding = 1
+    second = stage.begin(one, "restart", "--force", "--wait", "2", variables=way)
+    time.sleep(1)
+    one.reads = True
+    while second.poll() is None:
+        need(one.mode == "open" or (one.folder / "out").exists() or calls.exists(), "it drains without `out`")
+        time.sleep(0.005)
+    hope("how it ends", (second.communicate()[1].splitlines()[-1], calls.exists()),
+         ("rad_proxyctl: restarted, though this was left after 2 seconds", True))
+
+
+def processes_in(folder):
+    """The processes in a folder, and those whose command line has its name."""
+    found = processes_with(folder.name)
+    for path in pathlib.Path("/proc").glob("[0-9]*/cwd"):
+        with contextlib.suppress(OSError):
+            if path.readlink() == folder.resolve():
+                found.append(path.parent.name)
+    return found
 
 
 def out_is_taken_away_where_the_proxy_stalls(stage):
@@ -350,6 +413,7 @@ def what_the_caller_sets_is_not_read(stage):
 
 
 TESTS = [out_is_taken_away_where_it_is_stopped_before_the_drain, no_moment_of_a_stop_leaves_something,
+         no_moment_of_a_stop_leaves_something_where_each_step_is_slow, another_ones_restart_is_not_undone,
          out_is_taken_away_where_the_proxy_stalls, out_stays_where_the_proxy_drains_without_an_answer,
          out_stays_where_the_proxy_may_drain_yet,
          the_look_at_the_rate_ends_once_it_suffices, what_is_outstanding_counts_in_the_rate, nobody_else_keeps_root_from_a_restart,

@@ -368,6 +368,19 @@ def its_output_is_full(service):
     os.close(reading)
 
 
+def nothing_for_others_outlives_the_service(service):
+    """Once the service has ended its folder is empty, of what is traced too; and what a killed one left there is gone once it listens."""
+    for name in ("trace", "trace.new", "answer", "answer.new", "counters.7.new"):
+        service.run.mkdir(exist_ok=True)
+        (service.run / name).write_text("session S1\n")
+    process = service.start()
+    hope("at its start", sorted(it.name for it in service.run.iterdir() if it.name not in ("counters", "commands", "lines")), [])
+    (service.run / "trace").write_text("session S1\n")
+    process.terminate()
+    hope("status", process.wait(PATIENCE), 0)
+    hope("at its end", sorted(it.name for it in service.run.iterdir()), [])
+
+
 def what_is_left_over_is_a_warning(service):
     """Status 3 comes with a line of the log at warn, and without it at error, in letters of either case."""
     left = ["level=warn event=left", "level=warn event=left-over queued=0 outstanding=1 untaken=0"]
@@ -1177,6 +1190,7 @@ def root_serves_nobody_elses_folder(service):
 
 
 TESTS = [
+    nothing_for_others_outlives_the_service,
     drains_where_its_group_gets_the_signal, drains_where_its_terminal_is_closed, goes_on_at_a_hangup_under_systemd, a_term_at_any_moment_ends_it,
     a_term_while_it_opens_its_fifos_ends_it, a_limit_on_the_size_of_files_ends_nothing, a_drain_that_failed_is_not_obeyed_later,
     a_second_leaves_the_first_alone,

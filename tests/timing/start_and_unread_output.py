@@ -20,7 +20,7 @@ from tests.lib import (HERE, NOTHING_LEFT, Proxy, Server, answered, bound, built
 PATIENCE = 60
 # How much later than it should the end may come, on a machine that has much else to do.
 MARGIN = 15
-LINGER = 2000
+LINGER, SLOW_LINGER = 2000, 5000
 COUNT = 5000
 STATE = "lane {} h{} up {} accepted {} queued 0 outstanding {} answered {} opening 0"
 # The least stack with which the program serves, in kibibytes.
@@ -322,6 +322,28 @@ def a_slow_reader_gets_all(proxy):
     hope("status", process.wait(PATIENCE), 0)
 
 
+def lingers_from_the_first_wait_on(proxy):
+    """Where the output was waited for again and again, for longer than `linger` in all, no home server is waited for behind that."""
+    proxy.configure(SLOW_LINGER)
+    given, ours = os.pipe()
+    reading, taken = os.pipe()
+    proxy.kept([ours, reading])
+    process = proxy.start_over(given, taken)
+    proxy.take_request()
+    give(ours, b"state\n" * COUNT)
+    close(proxy, ours)
+    began = time.monotonic()
+    while time.monotonic() < began + 1.2 * SLOW_LINGER / 1000:
+        os.read(reading, 4096)
+        time.sleep(0.2)
+    began = time.monotonic()
+    last = read_all(reading).splitlines()[-1]
+    took = time.monotonic() - began
+    hope("last", last, "end: queued 0 outstanding 1 untaken 0")
+    hope("status", process.wait(PATIENCE), 3)
+    hope(f"it ends soon: {took:.1f} s", took < 0.6 * SLOW_LINGER / 1000, True)
+
+
 def a_closed_output_ends_it_undrained(proxy):
     """Where the reader of the output is gone, the program ends at once with status 4, and waits for no home server."""
     proxy.configure(600_000)
@@ -392,7 +414,7 @@ def serves_with_the_least_stack(proxy):
 TESTS = [
     says_nothing_without_a_thread, listens_once_all_threads_run, ends_unread_by_pipes, ends_unread_by_sockets,
     ends_unread_by_half_a_socket, ends_unread_by_a_file, ends_unread_by_a_terminal, ends_before_it_listens,
-    serves_while_its_output_waits, ends_without_room_for_its_last_line, a_slow_reader_gets_all,
+    serves_while_its_output_waits, ends_without_room_for_its_last_line, a_slow_reader_gets_all, lingers_from_the_first_wait_on,
     a_closed_output_ends_it_undrained, a_reader_that_goes_ends_it_undrained, tells_that_a_stack_is_too_small,
     serves_with_the_least_stack,
 ]

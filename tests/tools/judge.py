@@ -138,6 +138,15 @@ def is_open(scene):
     scene.asks(1, record(b"S9"))
 
 
+def is_open_since_it_was_sent_again(scene):
+    """The last request was sent first before the last seconds, and again in them: that is no fault either."""
+    asked = scene.asks(1, record(b"S9"))
+    scene.wait(12)
+    scene.again(asked)
+    scene.wait(1)
+    scene.whole(50, record(b"S10"))
+
+
 def is_answered_early(scene):
     asked = scene.asks(1, record(b"S9"))
     sent = scene.sends(8, record(b"S9"))
@@ -227,7 +236,7 @@ def has_its_realm_off(scene):
 
 
 PLANTED = {
-    clean: {}, is_repeated: {}, is_never_answered: {"never": 1}, is_open: {}, is_answered_early: {"early": 1},
+    clean: {}, is_repeated: {}, is_never_answered: {"never": 1}, is_open: {}, is_open_since_it_was_sent_again: {}, is_answered_early: {"early": 1},
     is_answered_by_the_proxy: {"early": 1}, has_two_identifiers: {"twice": 1}, has_two_authenticators: {"twice": 1},
     has_two_of_the_nas: {}, is_overtaken: {"overtaken": 1}, other_sessions_overtake: {}, answers_another_request: {"wrong": 1},
     home_answers_another_request: {"wrong home": 1}, leaves_the_identifier_to_the_next: {}, has_its_realm_off: {},
@@ -289,7 +298,7 @@ def each_fault_is_told(program, folder):
 
 def all_faults_are_told_together(program, folder):
     """One capture with all faults has each of them as often as it was planted. What was open is now unanswered."""
-    text = see(Files(folder), {kind: 1 for kind in KINDS} | {"never": 2, "early": 2, "twice": 2}, all_in_one())
+    text = see(Files(folder), {kind: 1 for kind in KINDS} | {"never": 3, "early": 2, "twice": 2}, all_in_one())
     hope("what names the one that was never answered", "session S-is_never_answered realm example.org" in text, True)
 
 

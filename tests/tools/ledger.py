@@ -791,8 +791,8 @@ def what_was_left_is_told(program, folder):
 
 
 def one_home_servers_records_are_handed_out(program, folder):
-    """The files that are handed out have the lines of one home server alone, and the SHA-256 of the others; their chain is that of the
-    ledger, so that a line that is changed later is found. What was cut short is left away, and no file is written over."""
+    """The files that are handed out have the lines of one home server alone, and the sums of the others; they are those of the ledger, so
+    that a line that is changed later is found. What was cut short is left away, and no file is written over."""
     stage, run = Stage(program, folder), Ledger(folder, 7)
     for at in range(6):
         run.add(b"%s-%d" % (list(HOMES)[at % 2].encode(), at), home=at % 2)
@@ -823,8 +823,8 @@ def one_home_servers_records_are_handed_out(program, folder):
         told = [it for it in ran.stdout.decode().splitlines() if "lane 1" not in it]
         hope("the audit", (told, ran.returncode), ([
             f"{name} lane 0 billing from 0 entries 3 not judged 3 part", f"{name} lane 0 billing part: not-judged",
-            f"{name} lane 0 billing accepted 3 answered 3 left 0", f"{name} hidden 4"], 3))
-        hope("a line that is changed", f"{files[1]}:1: WrongSum" in audited(auditor, edited, files[1]).stdout.decode(), True)
+            f"{name} lane 0 billing accepted 3 answered 3 left 0", f"{name} hidden 4"], 0))
+        hope("a line that is changed", f"{edited}:2: WrongSum" in audited(auditor, edited, files[1]).stdout.decode(), True)
     again = stage.folder / "again"
     call("--home", "billing", again, *files)
     hope("handed out again", [it.read_bytes() for it in sorted(again.iterdir())], [it.read_bytes() for it in files])

@@ -152,6 +152,12 @@ def what_was_answered_since_is_left_out(_, folder):
     done = room.ask()
     hope("printed", [line for line in done.stdout.splitlines() if "#" in line], ["# h1 3 queued"])
     need("answered since: 2; printed: 1" in done.stderr, done.stderr)
+    for one, home in ((b"d", "h2"), (b"e", "h2"), (b"f", "h2"), (b"g", "h1")):
+        room.leave(START + attribute(44, one), home=home)
+        room.answer(START + attribute(44, one))
+    for home, answered, printed in (("h1", 3, 1), ("h2", 3, 0)):
+        told = room.ask("--home", home).stderr
+        need(f"answered since: {answered}; printed: {printed}" in told, told)
 
 
 def a_record_left_twice_is_printed_once(_, folder):

@@ -4,8 +4,10 @@ usage: asking.py state | drain | metrics              prints the answer
        asking.py out SECONDS                          makes the file `out`, and removes it unless the proxy drains
        asking.py trace SECONDS LINES                  makes the file `trace`, and removes it
 
-The last two print `made`. They end when their input does, or after so many seconds. Where that has `keep`, `out` stays.
+The last two print `made`. They end when their input does, or after so many seconds. Where the input of `out` is `drain`, it drains the
+proxy, and prints the answer.
 """
+import contextlib
 import fcntl
 import os
 import select
@@ -143,20 +145,30 @@ def asked(word, answer):
     raise Ends(bounds.NO_ANSWER if is_taken_back(commands) else bounds.WAS_READ)
 
 
-def ask(word):
-    """Takes the lock and asks. It is held no longer than ANSWER_SECONDS and what it takes to take the command back. Nobody reads the
-    fifo any more then: what is printed from there on goes to the service's standard output."""
-    see_service()
+@contextlib.contextmanager
+def locked():
+    """Holds the lock of those who ask: no longer than ANSWER_SECONDS and what it takes to take a command back."""
     lock = take_lock()
     try:
-        answer = made_answer()
-        try:
-            return asked(word, answer)
-        finally:
-            removed("answer")
-            os.close(answer)
+        yield
     finally:
         os.close(lock)
+
+
+def ask_alone(word):
+    """Asks under the lock. Nobody reads the fifo any more then: what is printed from there on goes to the service's standard output."""
+    answer = made_answer()
+    try:
+        return asked(word, answer)
+    finally:
+        removed("answer")
+        os.close(answer)
+
+
+def ask(word):
+    see_service()
+    with locked():
+        return ask_alone(word)
 
 
 def written():
@@ -194,13 +206,17 @@ def put(octets):
         rest = rest[os.write(1, rest):]
 
 
+def put_lines(lines):
+    put(b"".join(line + b"\n" for line in lines))
+
+
 def put_metrics():
     """Prints the numbers that the proxy writes next, where it answers; they have those of `state` too. Where it writes none, those of
     `state` alone."""
-    lanes = b"".join(line + b"\n" for line in ask("state"))
+    lanes = ask("state")
     before = written()
     if before is None or not await_others(before):
-        put(lanes)
+        put_lines(lanes)
         raise Ends(bounds.NO_COUNTERS if before is None else bounds.OLD_COUNTERS)
     put(counters())
 
@@ -217,33 +233,62 @@ class Input:
             self.octets += part
             self.is_over = not part
 
+    def has_come(self, line, seconds):
+        """Whether a line comes before the end and in these seconds."""
+        until = time.monotonic() + seconds
+        while line not in self.octets and not self.is_over and (left := until - time.monotonic()) > 0:
+            self.wait(left)
+        return line in self.octets
+
 
 def are_drained(lines):
     """Whether the lanes are drained, of these lines of `state`."""
     return any(line.split()[4:5] != [b"open"] for line in lines)
 
 
-def hold_out(seconds):
-    """Makes the file by which a check of this machine knows that the proxy is about to be drained. It stays where the proxy drains."""
-    see_service()
-    descriptor = os.open("out", os.O_WRONLY | os.O_CREAT | os.O_TRUNC | os.O_CLOEXEC | os.O_NOFOLLOW, 0o600)
-    os.close(descriptor)
-    given, until = Input(), time.monotonic() + seconds
+def make_out():
+    os.close(os.open("out", os.O_WRONLY | os.O_CREAT | os.O_TRUNC | os.O_CLOEXEC | os.O_NOFOLLOW, 0o600))
+
+
+def drain_out():
+    """Drains the proxy, with the file there: another one, whose restart was ended, may have removed it."""
+    with locked():
+        make_out()
+        return ask_alone("drain")
+
+
+def remove_out(may_drain):
+    """Removes the file, unless the proxy says that it drains; or says nothing, and may drain. Nobody drains it between look and removal."""
     try:
-        put(b"made\n")
-        while not given.is_over and (left := until - time.monotonic()) > 0:
-            given.wait(left)
-    finally:
-        if b"keep\n" not in given.octets and not is_draining():
+        with locked():
+            try:
+                stays = are_drained(ask_alone("state"))
+            except (Ends, OSError):
+                stays = may_drain
+            if not stays:
+                removed("out")
+    except (Ends, OSError):
+        if not may_drain:
             removed("out")
 
 
-def is_draining():
-    """Whether the proxy says that it drains."""
+def hold_out(seconds):
+    """Makes the file by which a check of this machine knows that the proxy is about to be drained, and drains the proxy at the word. Who
+    drains is who removes the file: so whoever of those who started this is killed, no proxy drains without it."""
+    see_service()
+    make_out()
+    may_drain = False
     try:
-        return are_drained(ask("state"))
-    except (Ends, OSError):
-        return False
+        put(b"made\n")
+        if Input().has_come(b"drain\n", seconds):
+            lines = drain_out()
+            may_drain = True
+            put_lines(lines)
+    except Ends as it:
+        may_drain = it.status == bounds.WAS_READ
+        raise
+    finally:
+        remove_out(may_drain)
 
 
 def made_trace(text):
@@ -292,7 +337,7 @@ def obey(word, *rest):
     elif word == "trace":
         hold_trace(float(rest[0]), os.fsencode(rest[1]))
     else:
-        put(b"".join(line + b"\n" for line in ask(word)))
+        put_lines(ask(word))
 
 
 def main(words):

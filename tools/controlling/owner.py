@@ -28,10 +28,6 @@ class NoService(Fault):
         super().__init__(text, bounds.FAILED)
 
 
-class MayObey(NoService):
-    """No answer came, and the proxy may obey the command yet."""
-
-
 def identity_of(it):
     """What has the owner of a folder run a command in place of root."""
     import pwd
@@ -117,11 +113,11 @@ def fault_of(path, status, lines):
     if status in told:
         return NoService(told[status])
     if status == bounds.WAS_READ:
-        return MayObey(f"no answer in {bounds.ANSWER_SECONDS} seconds, but the proxy has read the command and may obey it yet")
+        return NoService(f"no answer in {bounds.ANSWER_SECONDS} seconds, but the proxy has read the command and may obey it yet")
     if status == bounds.IS_BUSY:
         return Fault("another one is asking")
     if 130 <= status < 200:
-        return MayObey(f"no answer in {bounds.ALL_SECONDS} seconds, and the proxy may obey the command yet")
+        return NoService(f"no answer in {bounds.ALL_SECONDS} seconds, and the proxy may obey the command yet")
     if lines:
         tell("\n".join(lines)[:bounds.LONGEST_LINE])
     return Fault(f"could not ask in {path}")

@@ -13,7 +13,7 @@ from .check import VARIABLES, checker
 from .holding import Holder
 from .lanes import lanes_of
 from .output import end_by, say, tell
-from .owner import Folder, MayObey, ask, run
+from .owner import Folder, ask, run
 from .processes import found, given_environment
 from .processes import run as run_command
 from .stops import Stopped, Stops
@@ -135,21 +135,17 @@ class Restart:
                           f"at the rate of the last {bounds.RATE_SECONDS}")
 
     def drain(self, out):
-        """Drains the proxy. Where it does not obey, the holder of the file `out` removes it, unless it sees the lanes drained all the same.
-        It stays too where the proxy has read the command, and nobody can say whether it drains."""
+        """Drains the proxy, by the holder of the file `out`. Where the proxy does not obey, the holder removes the file, unless it sees the
+        lanes drained all the same. It stays too where the proxy has read the command, and nobody can say whether it drains."""
         self.stops.wait()
         self.stops.ignore(signal.SIGHUP, signal.SIGPIPE)
         if self.stops.came is not None:
             raise Stopped(self.stops.came)
         try:
-            ask(self.folder, "drain")
-            out.keep()
-            return
+            out.drain()
         except (Fault, OSError) as fault:
             tell(f"rad_proxyctl: {printable(str(fault))}")
-            if isinstance(fault, MayObey) and self.look_or_none() is None:
-                out.keep()
-        raise Fault("not restarted")
+            raise Fault("not restarted") from None
 
     def go_out(self):
         """Makes the file `out`, by which a check of this machine knows that the proxy is about to be drained, and drains the proxy."""

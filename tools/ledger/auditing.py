@@ -14,7 +14,7 @@ from dataclasses import dataclass
 
 from trial.faults import CONFIGURATION, FAILED, USAGE, Fault, shown_path
 
-from .evidence import delays_of
+from .evidence import counts_of, said_of
 from .rows import row_of, visible
 from .sources import STANDARD_INPUT, UNREAD, Source, files_of
 
@@ -32,7 +32,7 @@ LANE = re.compile(r"(?:.*:\d+: )?run (?P<run>[0-9a-f]{16}) lane (?P<lane>\d+) "
                   r"(?:.* from (?P<from>\d+) entries (?P<entries>\d+) not judged (?P<unjudged>\d+) (?P<verdict>.*))?")
 IS_PART = re.compile(r"run \S+ lane \d+ .* part:.*")
 IS_WRONG, FILES_MISSING = re.compile(r".*: [A-Z]\w+"), re.compile(r".*:\d+: run \S+ files \d+ to \d+ missing")
-BEFORE_MISSING, HIDDEN = re.compile(r"run \S+ before .* missing"), re.compile(r"run \S+ hidden \d+")
+BEFORE_MISSING, HIDDEN = re.compile(r"run \S+ (before .* missing|untied)"), re.compile(r"run \S+ hidden \d+")
 
 
 def program_of(path):
@@ -252,9 +252,13 @@ class Audit:
         for octets in self.chunks():
             yield from map(row_of, octets.split(b"\n"))
 
-    def delays(self, places):
-        """The Acct-Delay-Time of the line at each of these places."""
-        return delays_of(self.sources, places)
+    def said(self, places):
+        """What the line at each of these places says besides its row."""
+        return said_of(self.sources, places)
+
+    def counts(self, records):
+        """How often the responses of these records could not be sent, and were sent again."""
+        return counts_of(self.sources, records)
 
     def place(self, row):
         """The file of a row, and its line there."""

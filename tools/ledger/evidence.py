@@ -1,13 +1,33 @@
-"""What the lines of a ledger say besides the rows of rad_audit: the Acct-Delay-Time of their packets (RFC 2866 section 5.2)."""
+"""What the lines of a ledger say besides the rows of rad_audit: the Acct-Delay-Time of their packets (RFC 2866 section 5.2), when a request
+was accepted and how often it was sent, and what became of a response."""
+import json
 import re
 from array import array
+from collections import Counter
+from typing import NamedTuple
 
 from trial.faults import Fault
 
 from .sources import lines_in
 
 PACKET = re.compile(rb'"(?:sent|request)"\s*:\s*"([0-9a-fA-F]*)"')
+ACCEPTED, SENDINGS = re.compile(rb'"accepted"\s*:\s*"([0-9TZ:.-]+)"'), re.compile(rb'"sendings"\s*:\s*(\d+)')
+COUNTED = re.compile(rb'"type"\s*:\s*"(unsent|again)"')
 ACCT_DELAY_TIME, HEADER, OCTETS = 41, 20, 4
+
+
+class Said(NamedTuple):
+    """What a line says of its record: each is None where it does not."""
+
+    delay: int | None = None
+    accepted: str | None = None
+    sendings: str | None = None
+
+
+def said_in(line):
+    """What a line says."""
+    accepted, sendings = ACCEPTED.search(line), SENDINGS.search(line)
+    return Said(delay_in(line), accepted and accepted[1].decode(), sendings and sendings[1].decode())
 
 
 def delay_in(line):
@@ -22,27 +42,53 @@ def delay_in(line):
     return None
 
 
-def delays_of(sources, places):
-    """The Acct-Delay-Time of the line at each of these places, the number of a file and that of a line, in the order of the files. What can't
-    be read a second time, as standard input, has none."""
+def said_of(sources, places):
+    """What the line at each of these places says, the number of a file and that of a line, in the order of the files. Of what can't be read a
+    second time, as standard input, nothing is known."""
     by_file = {}
     for file, line in places:
         by_file.setdefault(file, array("Q")).append(line)
     for number, wanted in sorted(by_file.items()):
         source = sources[number]
         if source.can_be_read_again:
-            yield from delays_in(source, wanted)
+            yield from said_by(source, wanted)
         else:
-            yield from (None for _ in wanted)
+            yield from (Said() for _ in wanted)
 
 
-def delays_in(source, wanted):
-    """Those of the lines of a file with these numbers, which ascend."""
+def said_by(source, wanted):
+    """What the lines of a file with these numbers say, which ascend."""
     lines, given = enumerate(lines_in(source.octets(lambda _: None)), 1), 0
     try:
         while given < len(wanted):
             line = next((octets for number, octets in lines if number == wanted[given]), b"")
-            yield delay_in(line)
+            yield said_in(line)
             given += 1
     except Fault:
-        yield from (None for _ in wanted[given:])
+        yield from (Said() for _ in wanted[given:])
+
+
+def counts_of(sources, records=None):
+    """How often the responses of these records, each a run, a lane and a number, could not be sent and were sent again; without records, of
+    all."""
+    counts = Counter()
+    for source in sources:
+        if records == set() or not source.can_be_read_again:
+            continue
+        try:
+            for line in lines_in(source.octets(lambda _: None)):
+                if COUNTED.search(line[:64]):
+                    take_count(line, records, counts)
+        except Fault:
+            pass
+    return counts
+
+
+def take_count(line, records, counts):
+    try:
+        its = json.loads(line)
+        record = its["run"].lower(), str(its["lane"]), str(its["record"])
+        if records is None or record in records:
+            counts[record, its["type"]] += its["count"]
+    except (ValueError, KeyError, TypeError, AttributeError):
+        pass

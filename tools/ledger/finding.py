@@ -25,6 +25,15 @@ def state_of(row):
     return f"left {row.state} at {row.time}: {STATES.get(row.state, 'it was not answered')}"
 
 
+def times(count):
+    return f"{count} time{'' if str(count) == '1' else 's'}"
+
+
+def record_of(row):
+    """What names a record."""
+    return row.run, row.lane, row.record
+
+
 def key_of(row):
     """What the same session and status is known by, in 64 bits."""
     return hash((row.client, row.session, row.status))
@@ -87,14 +96,19 @@ class Found:
             yield Row._make(words), place, self.keys[at], self.told[at]
 
 
-def paragraph(row, place, told, delay):
+def paragraph(row, place, told, said, counts):
     realm = "" if row.realm == NONE else f", realm {row.realm}"
     yield f"{kind_of(row)} of session {row.session}, user {row.user}{realm}"
     yield f"  came from {row.client} port {row.port} with Identifier {row.identifier}"
     yield f"  record {row.record} of lane {row.lane}, home server {row.home}, run {row.run}"
     yield f"  {state_of(row)}"
-    if delay is not None:
-        yield f"  Acct-Delay-Time {delay}: the access server tried to send it for {delay} second{'' if delay == 1 else 's'}"
+    if said.accepted is not None or said.sendings is not None:
+        yield "  " + ", ".join([*([f"accepted at {said.accepted}"] if said.accepted else []), *([f"sent {times(said.sendings)}"] if said.sendings else [])])
+    for kind, what in (("unsent", "the response could not be sent"), ("again", "the client repeated its request, and was sent the response again")):
+        if counts[record_of(row), kind]:
+            yield f"  {what} {times(counts[record_of(row), kind])}"
+    if said.delay is not None:
+        yield f"  Acct-Delay-Time {said.delay}: the access server tried to send it for {said.delay} second{'' if said.delay == 1 else 's'}"
     if row.session != NONE:
         yield f"  this session and status came {told}"
     yield f"  octets in {row.input}, octets out {row.output}, seconds {row.seconds}"
@@ -104,15 +118,17 @@ def paragraph(row, place, told, delay):
 
 def find(audit, choice):
     """The lines of a search, and the verdict behind them."""
-    found, counts = Found(), Counter()
+    found, counts, records = Found(), Counter(), set()
     for row in audit.rows(choice):
         counts[key_of(row)] += 1
         found.add(row, audit.place(row), choice.is_within(row))
+        if choice.is_within(row):
+            records.add(record_of(row))
     verdict, numbered = audit.verdict(), Numbered(counts)
-    delays = array("q", (-1 if it is None else it for it in audit.delays(found.marks())))
+    said, responses = list(audit.said(found.marks())), audit.counts(records)
     for row, place, key, at in found.in_order():
         number = numbered.number(row, place, key)
         if choice.is_within(row):
-            yield from map(visible, paragraph(row, place, came(*number), None if delays[at] < 0 else delays[at]))
-    yield f"{len(delays)} record{'' if len(delays) == 1 else 's'}{verdict.beside}"
+            yield from map(visible, paragraph(row, place, came(*number), said[at], responses))
+    yield f"{len(said)} record{'' if len(said) == 1 else 's'}{verdict.beside}"
     yield verdict

@@ -1,5 +1,6 @@
-"""Hands out the records of one home server. Of the others nothing is told; or, if the giver wants the sums of the run to be judged, their
-names and counts, and in the place of each line of them its SHA-256, which the chain of the run takes."""
+"""Hands out the records of one home server. In the place of each other line of a run is one with its lane, its kind and its sum, so that the
+sums can be judged; of the lines that begin a file or end the run the other lanes are left out, unless the giver wants their names and
+counts told."""
 import hashlib
 import json
 import os
@@ -8,6 +9,8 @@ from trial.faults import Fault, shown_path, told_by
 
 from .auditing import NotRead, Sources
 from .sources import MOST_LINE, lines_in
+
+KINDS = ("entry", "left", "unsent", "again")
 
 
 def read(line):
@@ -24,52 +27,49 @@ def written(its):
     return json.dumps(its, separators=(",", ":"), ensure_ascii=False).encode("utf-8", "surrogatepass")
 
 
-class WithOthers:
-    """What is handed out, with the names and counts of the other home servers, and the sums."""
+class Handed:
+    """What is handed out of a ledger, to one home server."""
 
-    def __init__(self, home):
-        self.home, self.records, self.others = home, 0, 0
+    def __init__(self, home, has_others):
+        self.home, self.has_others, self.records, self.others, self.lanes, self.sealed = home, has_others, 0, 0, set(), set()
 
     def of(self, line):
         """What is handed out of a line; nothing of what is no line of a ledger."""
         its, kind = read(line)
         if kind in ("begin", "end"):
             return self.of_run(line, its, kind)
-        if kind not in ("entry", "left", "hidden"):
+        if kind not in (*KINDS, "hidden"):
             return None
         is_own = kind != "hidden" and its.get("home") == self.home
-        self.records, self.others = self.records + is_own, self.others + (not is_own)
-        return line if is_own else self.of_other(line, kind)
+        self.records, self.others = self.records + (is_own and kind in ("entry", "left")), self.others + (not is_own)
+        return line if is_own else self.of_other(line, its, kind)
 
     def of_run(self, line, its, kind):
-        return line
-
-    def of_other(self, line, kind):
-        return line if kind == "hidden" else b'{"type":"hidden","sum":"%s"}' % hashlib.sha256(line + b"\n").hexdigest().encode()
-
-
-class WithoutOthers(WithOthers):
-    """The same with nothing of the other home servers. The sums are those of all lines, and are left away."""
-
-    def __init__(self, home):
-        super().__init__(home)
-        self.lanes = set()
-
-    def of_run(self, line, its, kind):
-        return written(self.own(its, kind))
-
-    def of_other(self, line, kind):
-        return None
-
-    def own(self, its, kind):
-        """A line that begins a file or ends a run, with the lanes of the home server alone."""
+        """A line that begins a file or ends a run: with the lanes of the home server alone, how many others there are, and its sum."""
+        if kind == "begin" and next(reversed(its)) == "sum":
+            self.sealed.add(its.get("run"))
+        if self.has_others:
+            return line
         lanes = [it for it in its.get("lanes") or () if isinstance(it, dict)]
         if kind == "begin":
-            lanes = [it for it in lanes if it.get("home") == self.home]
-            self.lanes |= {(its.get("run"), it.get("lane")) for it in lanes}
+            own = [it for it in lanes if it.get("home") == self.home]
+            self.lanes |= {(its.get("run"), it.get("lane")) for it in own}
         else:
-            lanes = [it for it in lanes if (its.get("run"), it.get("lane")) in self.lanes]
-        return {key: value for key, value in its.items() if key not in ("sum", "before", "lanes")} | {"lanes": lanes}
+            own = [it for it in lanes if (its.get("run"), it.get("lane")) in self.lanes]
+        if len(own) == len(lanes):
+            return line
+        if its.get("run") not in self.sealed:
+            return written({key: value for key, value in its.items() if key not in ("sum", "before", "lanes")} | {"lanes": own})
+        hidden = {"hidden": its.get("hidden", 0) + len(lanes) - len(own)}
+        return written({key: value for key, value in its.items() if key not in ("sum", "lanes", "hidden")} | {"lanes": own} | hidden | {"sum": its.get("sum")})
+
+    def of_other(self, line, its, kind):
+        """What stands in the place of a line of another home server. Of a run without sums nothing does, or, with the others, its SHA-256."""
+        if kind == "hidden":
+            return line
+        if its.get("run") in self.sealed and next(reversed(its)) == "sum":
+            return written({"type": "hidden", "lane": its.get("lane"), "kind": kind, "sum": its["sum"]})
+        return b'{"type":"hidden","sum":"%s"}' % hashlib.sha256(line + b"\n").hexdigest().encode() if self.has_others else None
 
 
 def make_folder(path):
@@ -93,7 +93,7 @@ def make_file(path):
 
 def hand_out(home, has_others, folder, paths):
     """Writes the files into a folder, none over another one, and gives the line that tells of them, and which files were not read."""
-    sources, handed = Sources(paths), (WithOthers if has_others else WithoutOthers)(home)
+    sources, handed = Sources(paths), Handed(home, has_others)
     try:
         make_folder(folder)
         for source in sources:

@@ -18,7 +18,7 @@ from .rows import visible
 from .sources import HEADS, MOST_LINE, NEW, lines_in
 
 NAME = re.compile(r"([0-9a-f]{16})-(\d+)-([0-9a-f]{64})\.tsq")
-RUN, SUM, NOTHING = re.compile(r"[0-9a-f]{16}"), re.compile(rb'"sum"\s*:\s*"([0-9a-fA-F]{64})"'), "0" * 64
+RUN, SUM = re.compile(r"[0-9a-f]{16}"), re.compile(rb',"sum":"([0-9a-f]{64})"}$')
 # What openssl prints of an answer: its time, with the fraction of a second if there is one, and the name that the authority gives itself.
 TIME, TSA = re.compile(r"^Time stamp: (\w{3}) +(\d+) (\d\d:\d\d:\d\d)(?:\.\d+)? (\d{4}) GMT$", re.M), re.compile(r"^TSA: (?!unspecified)(.*)$", re.M)
 QUERY, SECONDS, MASK = "application/timestamp-query", 60, 0o027
@@ -32,9 +32,10 @@ def add_words(parser):
 
 
 def bound_by(its, kind):
-    """The sum that a line of a run has, and whether it binds that line too, or those before it alone; nothing if it has none. Nothing else here
-    knows which lines have sums."""
-    return (its["sum"].lower(), False) if kind in ("begin", "end") and isinstance(its.get("sum"), str) else None
+    """The sum that a line of a run has, which binds that line and all before it; nothing if it has none. It is the last of its keys: what an
+    earlier version wrote as one is not looked at. Nothing else here knows which lines have sums."""
+    found = its["sum"] if kind and next(reversed(its)) == "sum" else None
+    return found if isinstance(found, str) else None
 
 
 @dataclass
@@ -52,9 +53,9 @@ class Run:
         """Takes a line that has a sum, or may have one."""
         self.file = its["file"] if kind == "begin" and isinstance(its.get("file"), int) else self.file
         found = bound_by(its, kind)
-        if found and found[0] != NOTHING:
-            self.latest = self.file, found[0]
-            self.bound[found[0]] = self.lines - 1 + found[1]
+        if found:
+            self.latest = self.file, found
+            self.bound[found] = self.lines
 
 
 def run_of(runs, line):
@@ -99,7 +100,7 @@ def bound_lines(sources, wanted):
             if run:
                 run.lines += 1
                 found = SUM.search(line)
-                if number == 0 or found and found[1].decode().lower() in wanted:
+                if number == 0 or found and found[1].decode() in wanted:
                     run.take(*read(line))
     return runs
 

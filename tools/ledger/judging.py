@@ -7,28 +7,31 @@ import json
 import os
 import sqlite3
 import stat
+from collections import Counter
 from dataclasses import dataclass
 
 import configuration
 from trial.faults import USAGE, Fault, shown_path, told_by
 
 from .auditing import LANE, WRONG_LINE, Audit, Verdict, audit_of, program_of, status_of, words_of
-from .evidence import delay_in
+from .evidence import Said, counts_of, said_in
 from .rows import Row
 from .sources import lines_in
 
-FORM, AT_ONCE, MASK = "rad_ledger index 1", 1 << 20, 0o077
+FORM, AT_ONCE, MASK = "rad_ledger index 2", 1 << 20, 0o077
 # The places of a row, and the other words of it, as rad_audit prints them.
 WORDS = Row._fields[2:]
 SCHEMA = f"""
 CREATE TABLE facts (name PRIMARY KEY, value);
 CREATE TABLE files (number INTEGER PRIMARY KEY, path, mark, sum);
-CREATE TABLE entries (file INTEGER, line INTEGER, {", ".join(WORDS)}, judged INTEGER, delay INTEGER, PRIMARY KEY (file, line)) WITHOUT ROWID;
+CREATE TABLE entries (file INTEGER, line INTEGER, {", ".join(WORDS)}, judged INTEGER, delay INTEGER, accepted, sendings,
+  PRIMARY KEY (file, line)) WITHOUT ROWID;
+CREATE TABLE counts (run, lane, record, kind, count, PRIMARY KEY (run, lane, record, kind)) WITHOUT ROWID;
 CREATE TABLE wrong (file INTEGER, line INTEGER, told, PRIMARY KEY (file, line)) WITHOUT ROWID;
 """
 INDEXES = "CREATE INDEX sessions ON entries (session); CREATE INDEX users ON entries (user);"
 KEEP = f"""
-INSERT INTO entries VALUES ({", ".join("?" * (len(WORDS) + 3))}, NULL) ON CONFLICT (file, line)
+INSERT INTO entries VALUES ({", ".join("?" * (len(WORDS) + 3))}, NULL, NULL, NULL) ON CONFLICT (file, line)
 DO UPDATE SET judged = excluded.judged WHERE excluded.judged > judged
 """
 # A line that is wrong under one configuration is right if it was judged by another one that has its home server and its client.
@@ -154,7 +157,7 @@ class Judgement:
         """Has rad_audit judge it under each configuration."""
         execute = self.database.execute
         execute("BEGIN IMMEDIATE")
-        for name in ("facts", "files", "entries", "wrong"):
+        for name in ("facts", "files", "entries", "counts", "wrong"):
             execute(f"DROP TABLE IF EXISTS {name}")
         for statement in filter(str.strip, SCHEMA.split(";")):
             execute(statement)
@@ -208,20 +211,26 @@ class Judgement:
         return verdict
 
     def keep(self, marks, verdict):
-        """Keeps the files, the delays and the verdict."""
+        """Keeps the files, what their lines say besides, and the verdict."""
         execute = self.database.execute
         for number, (source, mark) in enumerate(zip(self.sources, marks)):
             its_sum = sum_of(source.path) if self.asked.index is not None else None
             is_still = mark_of(source.path) == mark
             execute("INSERT INTO files VALUES (?, ?, ?, ?)", (number, os.path.abspath(source.path), mark, its_sum if is_still else None))
-            self.keep_delays(number, source)
+            self.keep_said(number, source)
+        self.keep_counts()
         now = datetime.datetime.now(datetime.UTC).strftime("%Y-%m-%dT%H:%M:%SZ")
         facts = {"ask": json.dumps(self.ask), "status": verdict.status, "lines": json.dumps(verdict.lines), "time": now}
         self.database.executemany("INSERT INTO facts VALUES (?, ?)", facts.items())
 
-    def keep_delays(self, number, source):
-        found = ((delay_in(line), number, at) for at, line in enumerate(lines_in(source.octets(lambda _: None)), 1))
-        self.database.executemany("UPDATE entries SET delay = ? WHERE file = ? AND line = ?", (it for it in found if it[0] is not None))
+    def keep_said(self, number, source):
+        found = ((*said_in(line), number, at) for at, line in enumerate(lines_in(source.octets(lambda _: None)), 1))
+        given = (it for it in found if it[:3] != (None, None, None))
+        self.database.executemany("UPDATE entries SET delay = ?, accepted = ?, sendings = ? WHERE file = ? AND line = ?", given)
+
+    def keep_counts(self):
+        counts = counts_of(self.sources).items()
+        self.database.executemany("INSERT INTO counts VALUES (?, ?, ?, ?, ?)", ((*record, kind, str(count)) for (record, kind), count in counts))
 
     def rows(self, choice):
         """The records that have the words that are asked for, whenever they were, in the order of the files."""
@@ -236,11 +245,15 @@ class Judgement:
             if choice.fits(row):
                 yield row
 
-    def delays(self, places):
-        """The Acct-Delay-Time of the line at each of these places."""
+    def said(self, places):
+        """What the line at each of these places says besides its row."""
         for place in places:
-            (delay,) = self.database.execute("SELECT delay FROM entries WHERE file = ? AND line = ?", place).fetchone()
-            yield delay
+            yield Said(*self.database.execute("SELECT delay, accepted, sendings FROM entries WHERE file = ? AND line = ?", place).fetchone())
+
+    def counts(self, records):
+        """How often the responses of these records could not be sent, and were sent again."""
+        ask = "SELECT kind, count FROM counts WHERE run = ? AND lane = ? AND record = ?"
+        return Counter({(record, kind): int(count) for record in records for kind, count in self.database.execute(ask, record)})
 
     def verdict(self):
         facts = self.facts()

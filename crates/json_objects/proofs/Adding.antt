@@ -14,7 +14,7 @@ Slots = List (List ℕ × Option Json)
 
 -- ---- members of an object
 
-slots_both : (ss us : Slots) → slots_tokens (ss ++ us) ≡ slots_tokens ss ++ slots_tokens us
+pub slots_both : (ss us : Slots) → slots_tokens (ss ++ us) ≡ slots_tokens ss ++ slots_tokens us
 slots_both [] us = refl
 slots_both (s ∷ ss) us = ap (λ ts. slot_tokens s.0 s.1 ++ ts) (slots_both ss us) ∙ sym (append_assoc (slot_tokens s.0 s.1) (slots_tokens ss) (slots_tokens us))
 
@@ -22,7 +22,7 @@ slot_then : (name : List ℕ) (o : Option Json) (ss : Slots) → members_tokens 
 slot_then name None ss = refl
 slot_then name (Some value) ss = refl
 
-slots_end : (ss : Slots) → members_tokens (present ss) ≡ slots_tokens ss ++ end_object ∷ []
+pub slots_end : (ss : Slots) → members_tokens (present ss) ≡ slots_tokens ss ++ end_object ∷ []
 slots_end [] = refl
 slots_end (s ∷ ss) =
     slot_then s.0 s.1 ss ∙ ap (λ ts. slot_tokens s.0 s.1 ++ ts) (slots_end ss) ∙ sym (append_assoc (slot_tokens s.0 s.1) (slots_tokens ss) (end_object ∷ []))

@@ -1,3 +1,5 @@
 pub mod Adding
 pub mod Behind
 pub mod Fine
+pub mod Longer
+pub mod Numbers

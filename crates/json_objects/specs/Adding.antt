@@ -36,3 +36,9 @@ pub record EndsLine (w : Written) (all : List ℕ) : Type 0 where
   pub text : IsUtf8 (print w.tokens)
   pub read : tokens (print w.tokens) ≡ w.tokens
   pub are : all ≡ w.before ++ (print w.tokens ++ 10 ∷ [])
+
+-- The octets that a writer leaves of an object without its last brace: those before, and what is printed before that brace.
+pub record EndsBody (w : Written) (all : List ℕ) : Type 0 where
+  pub text : IsUtf8 (print w.tokens)
+  pub read : tokens (print w.tokens) ≡ w.tokens
+  pub are : (front : List ℕ) → print w.tokens ≡ front ++ 125 ∷ [] → all ≡ w.before ++ front

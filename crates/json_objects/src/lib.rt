@@ -1,10 +1,10 @@
-//! Objects of JSON, written a member at a time: [`text`] and [`number`] add one, and [`close_line`] ends the line. `specs/Adding.antt`
-//! says what is added, and `specs/Written.antt` what a line is.
+//! Objects of JSON, written a member at a time: [`text`] and [`number`] add one, and [`close_line`] ends the line. [`close_body`] gives the
+//! object without its last brace. `specs/Adding.antt` says what is added, and `specs/Written.antt` what a line is.
 #![tactic(auto)]
 
 ghost use Rattle.std.specs.Prelude.{[], ◌∷◌, IfOk, OnOk, Some};
 ghost use Rattle.json.specs.Json.{string};
-ghost use Rattle.json_objects.specs.Adding.{AddsSlots, EndsLine};
+ghost use Rattle.json_objects.specs.Adding.{AddsSlots, EndsBody, EndsLine};
 ghost use Rattle.json_objects.specs.Written.{number_value};
 
 use json::Writer;
@@ -45,4 +45,13 @@ pub fn close_line(writer: Writer) -> Result<Vec<u8>, AllocError>
     let mut out = writer.into_inner();
     out.push(b'\n')?;
     Ok(out)
+}
+
+/// Returns what stood before, and behind it the object that was written, without its last brace.
+pub fn close_body(writer: Writer) -> Vec<u8>
+    ensures { EndsBody writer result.items }
+{
+    let mut all = writer.into_inner();
+    let _ = all.pop();
+    all
 }

@@ -5,6 +5,9 @@ mod Orders
 mod Runs
 mod RunCalls
 mod RunSteps
+mod Seals
+mod SealSteps
+mod Tails
 mod Writes
 mod Years
 mod Zeros

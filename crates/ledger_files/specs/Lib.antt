@@ -8,3 +8,4 @@ pub mod Moments
 pub mod Passing
 pub mod Rotation
 pub mod Runs
+pub mod Tails

@@ -1,15 +1,12 @@
 //! The chain of the lines of a run: what binds each line to all before it.
 
-ghost use Rattle.std.specs.Prelude.{◌≡◌, [], ◌∷◌, ◌++◌};
-ghost use Rattle.sha2.specs.Sha256.{sha256};
-
 use sha2::{Digest, Sha256};
 
 /// How many octets a SHA-256 has.
 pub const SUM_OCTETS: usize = 32;
 
 /// A chain of lines, as the SHA-256 that they give: 32 zero octets without a line, and behind each line the SHA-256 of the
-/// one before and of that of the line.
+/// one before and of that of the line's body.
 #[derive(Clone, Copy, Debug, PartialEq, Eq)]
 pub struct Chain {
     sum: [u8; SUM_OCTETS],
@@ -42,15 +39,15 @@ impl Chain {
         self.sum
     }
 
-    /// Adds a line, with its line end.
-    pub fn add(&mut self, line: &[u8])
-        ensures after { self.new.sum ≡ chain_after self.old.sum (sha256 line.now) }
-        ensures lines { (lines : List (List ℕ)) → self.old.sum ≡ chain_of lines → self.new.sum ≡ chain_of (lines ++ line.now ∷ []) }
+    /// Adds the line of a body.
+    pub fn add(&mut self, body: &[u8])
+        ensures after { self.new.sum ≡ chain_after self.old.sum (sha256 body.now) }
+        ensures lines { (bodies : List (List ℕ)) → self.old.sum ≡ chain_of bodies → self.new.sum ≡ chain_of (bodies ++ body.now ∷ []) }
     {
-        self.add_digest(Sha256::digest(line));
+        self.add_digest(Sha256::digest(body));
     }
 
-    /// Adds the line that has this SHA-256.
+    /// Adds the line whose body has this SHA-256.
     pub fn add_digest(&mut self, digest: [u8; SUM_OCTETS])
         ensures after { self.new.sum ≡ chain_after self.old.sum digest }
         ensures digests { (sum : List ℕ) (digests : List (List ℕ)) → self.old.sum ≡ chain_from sum digests → self.new.sum ≡ chain_from sum (digests ++ digest ∷ []) }
@@ -60,14 +57,4 @@ impl Chain {
         hasher.update(digest.as_slice());
         self.sum = hasher.finalize();
     }
-}
-
-/// Returns the SHA-256 of a line, which is given without its line end.
-pub fn digest_of(line: &[u8]) -> [u8; SUM_OCTETS]
-    ensures { result ≡ sha256 (line.now ++ 10 ∷ []) }
-{
-    let mut hasher = Sha256::new();
-    hasher.update(line);
-    hasher.update(b"\n");
-    hasher.finalize()
 }

@@ -17,6 +17,8 @@ pub enum DiskFault {
     Write(u32),
     /// A file could not be synced.
     Sync(u32),
+    /// Memory was refused.
+    Memory,
 }
 
 /// A file that a run found in its folder.
@@ -24,10 +26,10 @@ pub enum DiskFault {
 pub struct FoundFile {
     /// Its name in the folder.
     pub name: String,
-    /// How many octets it had.
-    pub octets: u64,
-    /// Their SHA-256.
-    pub sha256: [u8; SUM_OCTETS],
+    /// The sum of its last whole line, if that has one.
+    pub sum: Option<[u8; SUM_OCTETS]>,
+    /// Whether its name says that it is compressed. Its end was not read then.
+    pub is_compressed: bool,
 }
 
 /// Keeps one file of a ledger open at a time.
@@ -69,8 +71,8 @@ pub trait LedgerDisk {
     fn write(&mut self, octets: &[u8]) -> Result<usize, DiskFault>
         ensures { MatchResult result (λ count. (count ≤ length octets.now) × (files self.new ≡ wrote (files self.old) (take count octets.now))) (λ _. files self.new ≡ files self.old) };
 
-    /// Finds the file of another run than this one that was written last in this folder. There is none if there is no such
-    /// file, or if it can't be read.
+    /// Finds the file of another run than this one that was written last in this folder, and the sum of its last whole line,
+    /// without reading all of it. There is none if there is no such file, or if it can't be read.
     fn find_before(&self, alloc: Global, folder: &str, run: u64) -> Option<FoundFile>;
 
     /// Has the system put on its disk what was written to the file that is open, if there is one.

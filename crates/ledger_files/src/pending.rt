@@ -5,6 +5,8 @@ ghost use Rattle.ledger_files.specs.Files.{wrote};
 
 use crate::chain::Chain;
 use crate::disk::{DiskFault, LedgerDisk};
+use crate::tail::{NO_TAIL, body_of, write_tail};
+use std::alloc::AllocError;
 
 /// Writes octets that are written up to `done`, and returns up to where they are written then. If all are written, it
 /// asks nothing of the disk.
@@ -50,10 +52,28 @@ pub struct Pending {
 }
 
 impl Pending {
-    ghost use Rattle.std.specs.Prelude.{◌≡◌, ◌↔◌, ◌≤◌, ◌++◌, false, ℕ, List, vec_len, slice_range, IsOk, IsTrue, OnOk};
+    ghost use Rattle.std.specs.Prelude.{◌≡◌, ◌↔◌, ◌≤◌, ◌++◌, false, ℕ, List, vec_len, slice_range, IfOk, IsOk, IsTrue, OnOk};
     ghost use Rattle.ledger_files.specs.Chains.{chain_of};
     ghost use Rattle.ledger_files.specs.Files.{wrote};
     ghost use Rattle.ledger_files.specs.Passing.{Passes, newly_passed};
+    ghost use Rattle.ledger_files.specs.Tails.{line_after};
+
+    /// Makes a value of the line of a body that follows this chain. None of its octets is written.
+    ///
+    /// # Errors
+    ///
+    /// `AllocError` if memory is refused.
+    pub fn seal(body: Vec<u8>, before: Chain) -> Result<Pending, AllocError>
+        ensures { IfOk result (λ pending. (pending.octets.items ≡ line_after before.sum body.items) × (pending.done ≡ 0) × (pending.is_passed ≡ false)) }
+    {
+        let mut chain = before;
+        chain.add(body.as_slice());
+        let mut tail = NO_TAIL;
+        write_tail(chain.sum(), &mut tail);
+        let mut line = body;
+        line.extend_from_slice(&tail)?;
+        Ok(Pending::new(line))
+    }
 
     /// Makes a value of octets, none of which is written.
     pub fn new(octets: Vec<u8>) -> Pending
@@ -90,12 +110,12 @@ impl Pending {
     /// Passes the line as written whole, if it is and was not passed before: it is then the next one of the chain.
     pub fn pass(&mut self, chain: &mut Chain)
         ensures passes { Passes self.old self.new }
-        ensures chain { (lines : List (List ℕ)) → chain.old.sum ≡ chain_of lines → chain.new.sum ≡ chain_of (lines ++ newly_passed self.old self.new) }
+        ensures chain { (bodies : List (List ℕ)) → chain.old.sum ≡ chain_of bodies → chain.new.sum ≡ chain_of (bodies ++ newly_passed self.old self.new) }
     {
         if self.is_passed || !self.is_done() {
             return;
         }
-        chain.add(self.octets.as_slice());
+        chain.add(body_of(self.octets.as_slice()));
         self.is_passed = true;
     }
 

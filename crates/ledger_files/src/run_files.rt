@@ -7,6 +7,7 @@ ghost use Rattle.ledger_files.specs.Files.{IsOpen, synced, wrote};
 ghost use Rattle.ledger_files.specs.Passing.{HasPassed, newly_passed};
 ghost use Rattle.ledger_files.specs.Keeping.{KeepsAll, KeepsFile, KeepsLines};
 ghost use Rattle.ledger_files.specs.Runs.{IsRun};
+ghost use Rattle.ledger_files.specs.Tails.{body_in, line_after};
 
 use crate::batch::{Batch, LineHead};
 use crate::chain::{Chain, SUM_OCTETS};
@@ -20,8 +21,8 @@ use std::thread::Threads;
 /// lines of entries, and the line that ends the run.
 ///
 /// A file is its begin line, whole lines of entries, and the front of one more line if that was cut short. The next file
-/// has that line again, whole; the line that ends the run is made anew for it. `IsRun` says so of a disk that keeps a
-/// record of its files, and that the chain is that of the lines that are whole.
+/// has that line again, whole and sealed anew; the line that ends the run is made anew for it. `IsRun` says so of a disk that keeps a
+/// record of its files, and that each line is sealed behind the one before.
 #[derive(Drop)]
 pub struct RunFiles<D: Drop> {
     disk: D,
@@ -100,55 +101,68 @@ impl<D: LedgerDisk + Drop> RunFiles<D> {
         self.batch.clear();
     }
 
-    /// Adds the line of an entry behind the others.
+    /// Adds the line of an entry, which has this body, behind the others.
     ///
     /// # Errors
     ///
     /// `AllocError` if memory is refused. The lines stay as they are.
     #[tactic(auto, using(crate::proofs::RunCalls::batch_kept))]
-    pub fn add(&mut self, head: LineHead, line: &[u8]) -> Result<(), AllocError>
+    pub fn add(&mut self, head: LineHead, body: &[u8]) -> Result<(), AllocError>
         requires { vec_len self.old.last.octets ≡ 0 }
         ensures last { (self.new.last ≡ self.old.last) × (self.new.chain ≡ self.old.chain) }
-        ensures run { (lines : List (List ℕ)) → IsRun (D.files self.old.disk) self.old lines → MatchResult result (λ _. IsRun (D.files self.new.disk) self.new (lines ++ line.now ∷ [])) (λ _. IsRun (D.files self.new.disk) self.new lines) }
+        ensures run { (lines : List (List ℕ)) → IsRun (D.files self.old.disk) self.old lines → MatchResult result (λ _. IsRun (D.files self.new.disk) self.new (lines ++ body.now ∷ [])) (λ _. IsRun (D.files self.new.disk) self.new lines) }
     {
-        self.batch.add(head, line)?;
+        self.batch.add(head, body)?;
         Ok(())
     }
 
-    /// Sets the line that ends the run. No entry may be added behind it.
-    pub fn end_with(&mut self, line: Vec<u8>)
+    /// Sets the line that ends the run, which has this body, if all lines before it were passed. No entry may be added behind it.
+    ///
+    /// # Errors
+    ///
+    /// `AllocError` if memory is refused. There is no such line then.
+    pub fn end_with(&mut self, body: Vec<u8>) -> Result<(), AllocError>
         requires { vec_len self.old.last.octets ≡ 0 }
-        ensures last { (self.new.last.octets.items ≡ line.items) × (self.new.chain ≡ self.old.chain) }
+        ensures last { OnOk result (IsTrue self.old.first.is_passed → self.old.batch.whole ≡ vec_len self.old.batch.ends → self.new.last.octets.items ≡ line_after self.old.chain.sum body.items) }
+        ensures chain { self.new.chain ≡ self.old.chain }
         ensures run { (lines : List (List ℕ)) → IsRun (D.files self.old.disk) self.old lines → IsRun (D.files self.new.disk) self.new lines }
     {
-        self.last = Pending::new(line);
+        if !self.first.is_passed() || !self.batch.is_done() {
+            return Ok(());
+        }
+        let last = Pending::seal(body, self.chain)?;
+        self.last = last;
+        Ok(())
     }
 
-    /// Begins the next file, of this path and with this first line. The line of an entry that was not written whole is
+    /// Begins the next file, of this path and with a first line of this body. The line of an entry that was not written whole is
     /// written to it from its start. The line that ends the run is no longer set.
     ///
     /// # Errors
     ///
-    /// That of [`LedgerDisk::create`]. The file that was open stays open.
+    /// `Memory` if memory is refused, and that of [`LedgerDisk::create`]. The file that was open stays open.
     pub fn begin_file(
         &mut self,
         alloc: Global,
         path: String,
-        first: Vec<u8>,
+        body: Vec<u8>,
     ) -> Result<(), DiskFault>
         ensures last { OnOk result (vec_len self.new.last.octets ≡ 0) }
         ensures chain { self.new.chain ≡ self.old.chain }
         ensures run { (lines : List (List ℕ)) → IsRun (D.files self.old.disk) self.old lines → IsRun (D.files self.new.disk) self.new lines }
     {
+        let Ok(first) = Pending::seal(body, self.chain) else {
+            return Err(DiskFault::Memory);
+        };
         self.disk.create(path)?;
-        self.first = Pending::new(first);
+        self.first = first;
         self.batch.begin_line_again();
         self.last = Pending::new(Vec::new(alloc));
         Ok(())
     }
 
     /// Writes the line that begins the file and the lines of entries, as far as they are not written, if the file is still
-    /// at its path.
+    /// at its path. The lines of entries are sealed behind what was passed.
     ///
     /// # Errors
     ///
@@ -157,8 +171,8 @@ impl<D: LedgerDisk + Drop> RunFiles<D> {
         ensures same { KeepsAll self.old self.new × (self.new.last.done ≡ self.old.last.done) }
         ensures begun { OnOk result (IsTrue self.new.first.is_passed) }
         ensures chain { (lines : List (List ℕ)) → HasPassed self.old lines → HasPassed self.new (lines ++ newly_passed self.old.first self.new.first) }
-        ensures written { (self.old.first.done ≤ self.new.first.done) × (self.old.batch.done ≤ self.new.batch.done) × (D.files self.new.disk ≡ wrote (wrote (D.files self.old.disk) (slice_range self.old.first.octets.items self.old.first.done self.new.first.done)) (slice_range self.old.batch.octets.items self.old.batch.done self.new.batch.done)) }
-        ensures all { OnOk result ((self.new.first.done ≡ vec_len self.old.first.octets) × (self.new.batch.done ≡ vec_len self.old.batch.octets)) }
+        ensures written { (self.old.first.done ≤ self.new.first.done) × (self.old.batch.done ≤ self.new.batch.done) × (D.files self.new.disk ≡ wrote (wrote (D.files self.old.disk) (slice_range self.old.first.octets.items self.old.first.done self.new.first.done)) (slice_range self.new.batch.octets.items self.old.batch.done self.new.batch.done)) }
+        ensures all { OnOk result ((self.new.first.done ≡ vec_len self.old.first.octets) × (self.new.batch.done ≡ vec_len self.new.batch.octets)) }
         ensures run { (lines : List (List ℕ)) → IsRun (D.files self.old.disk) self.old lines → IsRun (D.files self.new.disk) self.new lines }
     {
         if !self.disk.is_open() {
@@ -168,6 +182,7 @@ impl<D: LedgerDisk + Drop> RunFiles<D> {
         let begun = self.first.write(&mut self.disk);
         self.first.pass(&mut self.chain);
         begun?;
+        self.batch.seal(self.chain);
         self.batch.write(&mut self.disk)?;
         Ok(())
     }
@@ -194,7 +209,7 @@ impl<D: LedgerDisk + Drop> RunFiles<D> {
         ensures passed { MatchOption result (self.new.batch.whole ≡ self.old.batch.whole) (λ head. (self.new.batch.whole ≡ self.old.batch.whole + 1) × IsHeadOf self.old.batch head × (slice_index self.old.batch.ends.items self.old.batch.whole ≤ self.old.batch.done)) }
         ensures rest { MatchOption result (IfSome (D.files self.old.disk) (λ files. IsOpen files → IsTrue self.old.first.is_passed → self.old.batch.whole < vec_len self.old.batch.ends → self.old.batch.done < slice_index self.old.batch.ends.items self.old.batch.whole)) (λ _. Unit {0}) }
         ensures none { MatchOption result (self.new.chain ≡ self.old.chain) (λ _. Unit {0}) }
-        ensures chain { MatchOption result (Unit {0}) (λ _. (held : List (List ℕ)) → HoldsLines self.old.batch held → (lines : List (List ℕ)) → HasPassed self.old lines → HasPassed self.new (lines ++ slice_index_or held self.old.batch.whole [] ∷ [])) }
+        ensures chain { MatchOption result (Unit {0}) (λ _. (held : List (List ℕ)) → HoldsLines self.old.batch held → (lines : List (List ℕ)) → HasPassed self.old lines → HasPassed self.new (lines ++ body_in (slice_index_or held self.old.batch.whole []) ∷ [])) }
         ensures run { (lines : List (List ℕ)) → IsRun (D.files self.old.disk) self.old lines → IsRun (D.files self.new.disk) self.new lines }
     {
         if !self.disk.is_open() || !self.first.is_passed() {

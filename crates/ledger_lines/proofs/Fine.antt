@@ -11,8 +11,8 @@ use Rattle.ledger_lines.specs.declared.end.End.{End}
 use Rattle.ledger_lines.specs.declared.begin.FileBefore.{FileBefore}
 use Rattle.ledger_lines.specs.declared.end.LaneCount.{LaneCount}
 use Rattle.ledger_lines.specs.declared.lane_start.LaneStart.{LaneStart}
-use Rattle.json_objects.specs.Written.{number_value}
-use Rattle.ledger_lines.specs.Written.{begin_slots, begin_value, count_slots, count_value, digits_if_any, end_slots, end_value, entry_slots, entry_value, file_slots, file_value, lane_slots, left_slots, left_value, octets_value, packet_slots, request_slots, start_slots, start_value, state_slots, text_if_any, words_slots}
+use Rattle.json_objects.specs.Written.{number_value, object_of}
+use Rattle.ledger_lines.specs.Written.{begin_slots, begin_value, count_slots, count_value, digits_if_any, end_slots, end_value, entry_slots, entry_value, file_slots, file_value, lane_slots, left_slots, left_value, octets_value, packet_slots, request_slots, start_slots, start_value, state_slots, sum_slot, text_if_any, words_slots}
 use Rattle.json_objects.proofs.Fine.{AreFine, IsFine, MayBeFine, deeper, fine_array, fine_both, fine_object}
 
 any_number : (most : ℕ) (its : Option ℕ) → MayBeFine most (option_map number_value its)
@@ -26,13 +26,23 @@ any_octets most (Some octets) = (omega arith, tt)
 fine_count : (count : LaneCount) → IsFine 1 (count_value count)
 fine_count count = fine_object 0 (count_slots count) refl ((omega arith, tt), ((omega arith, tt), (any_number 0 count.accepted, (any_number 0 count.left, tt))))
 
+-- the sum behind a line
+sum_fine : (most : ℕ) (sum : List ℕ) → AreFine most (sum_slot sum ∷ [])
+sum_fine most sum = ((omega arith, tt), tt)
+
+end_fine : (end : End) → AreFine 2 (end_slots end)
+end_fine end = (
+  (omega arith, tt),
+  ((omega arith, tt), ((omega arith, tt), (fine_array count_value 1 fine_count end.lanes.items, (any_number 2 end.hidden, tt)))),
+)
+
 pub fine_end : (end : End) → IsFine 128 (end_value end)
-fine_end end =
-    deeper 3 128 (end_value end) (omega arith)
-    (fine_object 2 (end_slots end) refl (
-      (omega arith, tt),
-      ((omega arith, tt), ((omega arith, tt), (any_octets 2 end.sum, (fine_array count_value 1 fine_count end.lanes.items, tt)))),
-    ))
+fine_end end = deeper 3 128 (end_value end) (omega arith) (fine_object 2 (end_slots end) refl (end_fine end))
+
+pub fine_end_summed : (end : End) (sum : List ℕ) → IsFine 128 (object_of (end_slots end ++ sum_slot sum ∷ []))
+fine_end_summed end sum =
+    deeper 3 128 (object_of (end_slots end ++ sum_slot sum ∷ [])) (omega arith)
+    (fine_object 2 (end_slots end ++ sum_slot sum ∷ []) refl (fine_both 2 (end_slots end) (sum_slot sum ∷ []) (end_fine end) (sum_fine 2 sum)))
 
 any_text : (most : ℕ) (its : Option (List ℕ)) → MayBeFine most (option_map string its)
 any_text most None = tt
@@ -54,28 +64,34 @@ fine_start : (start : LaneStart) → IsFine 1 (start_value start)
 fine_start start = fine_object 0 (start_slots start) refl ((omega arith, tt), ((omega arith, tt), ((omega arith, tt), tt)))
 
 fine_file : (file : FileBefore) → IsFine 1 (file_value file)
-fine_file file = fine_object 0 (file_slots file) refl ((omega arith, tt), ((omega arith, tt), ((omega arith, tt), tt)))
+fine_file file = fine_object 0 (file_slots file) refl ((omega arith, tt), (any_octets 0 file.sum, tt))
 
 any_file : (its : Option FileBefore) → MayBeFine 2 (option_map file_value its)
 any_file None = tt
 any_file (Some file) = deeper 1 2 (file_value file) (omega arith) (fine_file file)
 
-pub fine_begin : (begin : Begin) → IsFine 128 (begin_value begin)
-fine_begin begin =
-    deeper 3 128 (begin_value begin) (omega arith)
-    (fine_object 2 (begin_slots begin) refl (
+begin_fine : (begin : Begin) → AreFine 2 (begin_slots begin)
+begin_fine begin = (
+  (omega arith, tt),
+  (
+    (omega arith, tt),
+    (
       (omega arith, tt),
       (
         (omega arith, tt),
-        (
-          (omega arith, tt),
-          (
-            (omega arith, tt),
-            ((omega arith, tt), (any_octets 2 begin.sum, (any_file begin.before, (fine_array start_value 1 fine_start begin.lanes.items, tt)))),
-          ),
-        ),
+        ((omega arith, tt), (any_file begin.before, (fine_array start_value 1 fine_start begin.lanes.items, (any_number 2 begin.hidden, tt)))),
       ),
-    ))
+    ),
+  ),
+)
+
+pub fine_begin : (begin : Begin) → IsFine 128 (begin_value begin)
+fine_begin begin = deeper 3 128 (begin_value begin) (omega arith) (fine_object 2 (begin_slots begin) refl (begin_fine begin))
+
+pub fine_begin_summed : (begin : Begin) (sum : List ℕ) → IsFine 128 (object_of (begin_slots begin ++ sum_slot sum ∷ []))
+fine_begin_summed begin sum =
+    deeper 3 128 (object_of (begin_slots begin ++ sum_slot sum ∷ [])) (omega arith)
+    (fine_object 2 (begin_slots begin ++ sum_slot sum ∷ []) refl (fine_both 2 (begin_slots begin) (sum_slot sum ∷ []) (begin_fine begin) (sum_fine 2 sum)))
 
 -- text and numbers
 plain : MayBeFine 0 (Some (string []))
@@ -100,16 +116,30 @@ fine_words about =
 fine_request : (about : LineRequest) → AreFine 0 (request_slots about)
 fine_request about = (plain, (plain, (plain, (plain, (plain, fine_words about)))))
 
-pub fine_entry : (e : Entry) → IsFine 128 (entry_value e)
-fine_entry e =
-    let packets : AreFine 0 (packet_slots e) = (plain, (plain, (plain, tt))) in
+entry_fine : (e : Entry) → AreFine 0 (entry_slots e)
+entry_fine e =
+    let packets : AreFine 0 (packet_slots e) = (plain, (plain, (plain, (any_text 0 (option_copied e.accepted), (any_number 0 e.sendings, tt))))) in
     let behind = fine_both 0 (request_slots e.about) (packet_slots e) (fine_request e.about) packets in
-    deeper 1 128 (entry_value e) (omega arith)
-    (fine_object 0 (entry_slots e) refl (fine_both 0 (lane_slots (codes "entry") e.about) ((codes "serial", Some (number_value e.serial)) ∷ (request_slots e.about ++ packet_slots e)) (fine_lane (codes "entry") e.about) (plain, behind)))
+    fine_both 0 (lane_slots (codes "entry") e.about) ((codes "serial", Some (number_value e.serial)) ∷ (request_slots e.about ++ packet_slots e)) (fine_lane (codes "entry") e.about) (plain, behind)
 
-pub fine_left : (left : Left) → IsFine 128 (left_value left)
-fine_left left =
+pub fine_entry : (e : Entry) → IsFine 128 (entry_value e)
+fine_entry e = deeper 1 128 (entry_value e) (omega arith) (fine_object 0 (entry_slots e) refl (entry_fine e))
+
+pub fine_entry_summed : (e : Entry) (sum : List ℕ) → IsFine 128 (object_of (entry_slots e ++ sum_slot sum ∷ []))
+fine_entry_summed e sum =
+    deeper 1 128 (object_of (entry_slots e ++ sum_slot sum ∷ [])) (omega arith)
+    (fine_object 0 (entry_slots e ++ sum_slot sum ∷ []) refl (fine_both 0 (entry_slots e) (sum_slot sum ∷ []) (entry_fine e) (sum_fine 0 sum)))
+
+left_fine : (left : Left) → AreFine 0 (left_slots left)
+left_fine left =
     let states : AreFine 0 (state_slots left) = (plain, (any_number 0 left.sendings, (any_text 0 (option_copied left.accepted), (plain, tt)))) in
     let behind = fine_both 0 (request_slots left.about) (state_slots left) (fine_request left.about) states in
-    deeper 1 128 (left_value left) (omega arith)
-    (fine_object 0 (left_slots left) refl (fine_both 0 (lane_slots (codes "left") left.about) (request_slots left.about ++ state_slots left) (fine_lane (codes "left") left.about) behind))
+    fine_both 0 (lane_slots (codes "left") left.about) (request_slots left.about ++ state_slots left) (fine_lane (codes "left") left.about) behind
+
+pub fine_left : (left : Left) → IsFine 128 (left_value left)
+fine_left left = deeper 1 128 (left_value left) (omega arith) (fine_object 0 (left_slots left) refl (left_fine left))
+
+pub fine_left_summed : (left : Left) (sum : List ℕ) → IsFine 128 (object_of (left_slots left ++ sum_slot sum ∷ []))
+fine_left_summed left sum =
+    deeper 1 128 (object_of (left_slots left ++ sum_slot sum ∷ [])) (omega arith)
+    (fine_object 0 (left_slots left ++ sum_slot sum ∷ []) refl (fine_both 0 (left_slots left) (sum_slot sum ∷ []) (left_fine left) (sum_fine 0 sum)))

@@ -11,3 +11,5 @@ pub mod Members
 pub mod Fine
 pub mod Told
 pub mod Single
+pub mod Few
+pub mod Sums

@@ -3,10 +3,12 @@ use Rattle.std.proofs.Common.{◌≡◌, ◌∙◌, ℕ, ◌^◌, Some, None, Ma
 use Rattle.std.specs.Prelude.{⊤}
 use Rattle.json.specs.Json.{Json}
 use Rattle.json.specs.Find.{get}
-use Rattle.ledger_lines.specs.Lines.{Denies, HasText, HasNumber, MayHaveNumber, HasRun, HasTime, HasLanes, HasArray, MayHaveSum, MayHaveFile, IsFileBefore, IsHidden, IsEnd, IsLaneStart, IsLaneCount}
+use Rattle.ledger_lines.specs.Lines.{Denies, HasText, HasNumber, MayHaveNumber, HasRun, HasTime, HasLanes, HasArray, HasSome, MayHaveKind, MayHaveSum, MayHaveFile, IsFileBefore, IsHidden, IsEnd, IsLaneStart, IsLaneCount, IsRecordCount}
 use Rattle.ledger_lines.specs.declared.end.End.{End}
 use Rattle.ledger_lines.specs.declared.begin.FileBefore.{FileBefore}
 use Rattle.ledger_lines.specs.declared.hidden.Hidden.{Hidden}
+use Rattle.ledger_lines.specs.declared.hidden.HiddenKind.{HiddenKind}
+use Rattle.ledger_rules.specs.declared.record_count.RecordCount.{RecordCount}
 use Rattle.ledger_lines.specs.declared.lane_start.LaneStart.{LaneStart}
 use Rattle.ledger_lines.specs.declared.end.LaneCount.{LaneCount}
 use Rattle.ledger_lines.specs.declared.faults.LineFault.{LineFault}
@@ -40,8 +42,8 @@ module _ (value : Json) (fault : LineFault) where
   pub end_time : Denies fault ((x : List ℕ) × HasTime (codes "time") value x) → Denies fault IsEndThere
   end_time = denied _ _ (λ p. (p.0.time.now, p.1.time)) fault
 
-  pub end_sum : Denies fault ((x : Option (List ℕ)) × MayHaveSum (codes "sum") value x) → Denies fault IsEndThere
-  end_sum = denied _ _ (λ p. (p.0.sum, p.1.sum)) fault
+  pub end_hidden : Denies fault ((x : Option ℕ) × MayHaveNumber (codes "hidden") (2 ^ 32) value x) → Denies fault IsEndThere
+  end_hidden = denied _ _ (λ p. (p.0.hidden, p.1.hidden)) fault
 
   pub end_lanes : Denies fault ((x : List LaneCount) × HasLanes IsLaneCount value x) → Denies fault IsEndThere
   end_lanes = denied _ _ (λ p. (p.0.lanes.items, p.1.lanes)) fault
@@ -52,17 +54,20 @@ module _ (value : Json) (fault : LineFault) where
   pub file_name : Denies fault ((x : List ℕ) × HasText (codes "name") value x) → Denies fault IsFileThere
   file_name = denied _ _ (λ p. (p.0.name.now, p.1.name)) fault
 
-  pub file_octets : Denies fault ((x : ℕ) × HasNumber (codes "octets") (2 ^ 64) value x) → Denies fault IsFileThere
-  file_octets = denied _ _ (λ p. (p.0.octets, p.1.octets)) fault
-
-  pub file_sha256 : Denies fault ((x : List ℕ) × HasArray (codes "sha256") 32 value x) → Denies fault IsFileThere
-  file_sha256 = denied _ _ (λ p. (p.0.sha256, p.1.sha256)) fault
+  pub file_sum : Denies fault ((x : Option (List ℕ)) × MayHaveSum (codes "sum") value x) → Denies fault IsFileThere
+  file_sum = denied _ _ (λ p. (p.0.sum, p.1.sum)) fault
 
   abbrev pub IsHiddenThere : Type 0
   IsHiddenThere = (x : Hidden) × IsHidden value x
 
   pub hidden_sum : Denies fault ((x : List ℕ) × HasArray (codes "sum") 32 value x) → Denies fault IsHiddenThere
   hidden_sum = denied _ _ (λ p. (p.0.sum, p.1.sum)) fault
+
+  pub hidden_lane : Denies fault ((x : Option ℕ) × MayHaveNumber (codes "lane") (2 ^ 16) value x) → Denies fault IsHiddenThere
+  hidden_lane = denied _ _ (λ p. (p.0.lane, p.1.lane)) fault
+
+  pub hidden_kind : Denies fault ((x : Option HiddenKind) × MayHaveKind value x) → Denies fault IsHiddenThere
+  hidden_kind = denied _ _ (λ p. (p.0.kind, p.1.kind)) fault
 
   abbrev pub IsStartThere : Type 0
   IsStartThere = (x : LaneStart) × IsLaneStart value x
@@ -91,12 +96,38 @@ module _ (value : Json) (fault : LineFault) where
   pub count_left : Denies fault ((x : Option ℕ) × MayHaveNumber (codes "left") (2 ^ 64) value x) → Denies fault IsCountThere
   count_left = denied _ _ (λ p. (p.0.left, p.1.left)) fault
 
--- The parts of each.
-pub ruleset end_parts = (end_run, end_time, end_sum, end_lanes)
+module _ (kind : List ℕ) (value : Json) (fault : LineFault) where
+  abbrev pub IsRecordCountThere : Type 0
+  IsRecordCountThere = (x : RecordCount) × IsRecordCount kind value x
 
-pub ruleset file_parts = (file_name, file_octets, file_sha256)
+  pub record_count_run : Denies fault ((x : ℕ) × HasRun value x) → Denies fault IsRecordCountThere
+  record_count_run = denied _ _ (λ p. (p.0.run, p.1.run)) fault
+
+  pub record_count_time : Denies fault ((x : List ℕ) × HasTime (codes "time") value x) → Denies fault IsRecordCountThere
+  record_count_time = denied _ _ (λ p. (p.0.time.now, p.1.time)) fault
+
+  pub record_count_home : Denies fault ((x : List ℕ) × HasText (codes "home") value x) → Denies fault IsRecordCountThere
+  record_count_home = denied _ _ (λ p. (p.0.home.now, p.1.home)) fault
+
+  pub record_count_lane : Denies fault ((x : ℕ) × HasNumber (codes "lane") (2 ^ 16) value x) → Denies fault IsRecordCountThere
+  record_count_lane = denied _ _ (λ p. (p.0.lane, p.1.lane)) fault
+
+  pub record_count_number : Denies fault ((x : ℕ) × HasNumber (codes "record") (2 ^ 64) value x) → Denies fault IsRecordCountThere
+  record_count_number = denied _ _ (λ p. (p.0.number, p.1.record_is)) fault
+
+  pub record_count_count : Denies fault ((x : ℕ) × HasSome value x) → Denies fault IsRecordCountThere
+  record_count_count = denied _ _ (λ p. (p.0.count, p.1.count)) fault
+
+-- The parts of each.
+pub ruleset end_parts = (end_run, end_time, end_lanes, end_hidden)
+
+pub ruleset file_parts = (file_name, file_sum)
+
+pub ruleset hidden_parts = (hidden_sum, hidden_lane, hidden_kind)
 
 pub ruleset start_parts = (start_lane, start_home, start_serial)
+
+pub ruleset record_count_parts = (record_count_run, record_count_time, record_count_home, record_count_lane, record_count_number, record_count_count)
 
 pub ruleset count_parts = (count_lane, count_entries, count_accepted, count_left)
 

@@ -1,5 +1,5 @@
 -- A value is one line at most, and so are octets.
-use Rattle.std.proofs.Common.{◌≡◌, ℕ, ◌^◌, List, [], ◌∷◌, codes, length, Option, Some, None, Result, Ok, Err, inl, inr, refl, sym, ap, ◌∙◌, subst, arith}
+use Rattle.std.proofs.Common.{◌≡◌, ℕ, ◌^◌, List, [], ◌∷◌, codes, get_or, length, Option, Some, None, Result, Ok, Err, inl, inr, refl, sym, ap, ◌∙◌, subst, arith}
 use Rattle.std.specs.Prelude.{option_copied}
 use Rattle.std.specs.List.{AllZip, each_same}
 use Rattle.std.specs.Int.{w64, from_be_bytes}
@@ -18,9 +18,14 @@ use Rattle.ledger_lines.specs.declared.lane_start.LaneStart.{LaneStart}
 use Rattle.ledger_lines.specs.declared.faults.LineFault.{LineFault}
 use Rattle.ledger_lines.specs.declared.faults.LineFault.TheVariants.{NotALine, OutOfMemory}
 use Rattle.ledger_lines.specs.declared.reading.Line.{Line}
-use Rattle.ledger_lines.specs.declared.reading.Line.TheVariants.{Begin as begins, Entry as enters, Left as leaves, End as ends, Hidden as hides}
-use Rattle.ledger_lines.specs.Lines.{AreEach, HasArray, HasClient, HasLanes, HasOctets, HasRun, HasState, HasTime, IsAbout, IsBegin, IsEnd, IsEntry, IsFileBefore, IsLaneCount, IsLaneStart, IsLeft, IsLine, IsLineOf, MayHaveFile, MayHaveNumber, MayHaveSum, MayHaveTime, MayHaveWords, as_items, state_text}
-use Rattle.ledger_lines.specs.Same.{GivesBack, IsAnswer, IsSameBegin, IsSameEnd, IsSameEntry, IsSameFile, IsSameFileIfAny, IsSameLeft, IsSameLine, IsSameRequest, IsSameStart}
+use Rattle.ledger_lines.specs.declared.reading.SummedLine.{SummedLine}
+use Rattle.ledger_rules.specs.declared.record_count.RecordCount.{RecordCount}
+use Rattle.ledger_lines.specs.declared.hidden.Hidden.{Hidden}
+use Rattle.ledger_lines.specs.declared.hidden.HiddenKind.{HiddenKind}
+use Rattle.ledger_lines.specs.declared.hidden.HiddenKind.TheVariants.{Entry as AnEntry, Left as ALeft, Unsent as AnUnsent, Again as AnAgain}
+use Rattle.ledger_lines.specs.declared.reading.Line.TheVariants.{Begin as begins, Entry as enters, Left as leaves, Unsent as unsends, Again as repeats, End as ends, Hidden as hides}
+use Rattle.ledger_lines.specs.Lines.{AreEach, HasArray, HasClient, HasLanes, HasOctets, HasRun, HasState, HasTime, IsAbout, IsBegin, IsEnd, IsEntry, IsFileBefore, IsLaneCount, IsLaneStart, IsLeft, IsHidden, IsLine, IsLineOf, IsRecordCount, MayHaveFile, MayHaveKind, kind_text, MayHaveNumber, MayHaveSum, MayHaveTime, MayHaveWords, as_items, state_text}
+use Rattle.ledger_lines.specs.Same.{GivesBack, IsAnswer, IsSameBegin, IsSameCount, IsSameEnd, IsSameSummed, IsSameEntry, IsSameFile, IsSameFileIfAny, IsSameLeft, IsSameLine, IsSameRequest, IsSameStart}
 use Rattle.ledger_lines.proofs.Found.{one_number, one_text, same_some, unlike}
 
 -- ---- what an object has at a key
@@ -106,6 +111,8 @@ one_entry value one another h i = record {
   sent = one_octets (codes "sent") value one.sent.now another.sent.now h.sent i.sent;
   reply = one_octets (codes "reply") value one.reply.now another.reply.now h.reply i.reply;
   response = one_octets (codes "response") value one.response.now another.response.now h.response i.response;
+  accepted = time_if_any (codes "accepted") value (option_copied one.accepted) (option_copied another.accepted) h.accepted i.accepted;
+  sendings = number_if_any (codes "sendings") value (2 ^ 32) one.sendings another.sendings h.sendings i.sendings;
 }
 
 one_left : (value : Json) (one another : Left) → IsLeft value one → IsLeft value another → IsSameLeft one another
@@ -145,8 +152,7 @@ one_start value one another h i = record {
 one_file : (value : Json) (one another : FileBefore) → IsFileBefore value one → IsFileBefore value another → IsSameFile one another
 one_file value one another h i = record {
   name = one_text (codes "name") value one.name.now another.name.now h.name i.name;
-  octets = one_number (codes "octets") value (2 ^ 64) (2 ^ 64) one.octets another.octets h.octets i.octets;
-  sha256 = one_array (codes "sha256") value 32 one.sha256 another.sha256 h.sha256 i.sha256;
+  sum = sum_if_any (codes "sum") value one.sum another.sum h.sum i.sum;
 }
 
 file_if_any : (value : Json) (one another : Option FileBefore) → MayHaveFile value one → MayHaveFile value another → IsSameFileIfAny one another
@@ -163,9 +169,9 @@ one_begin value one another h i = record {
   time = one_time (codes "time") value one.time.now another.time.now h.time i.time;
   version = one_text (codes "version") value one.version.now another.version.now h.version i.version;
   file = one_number (codes "file") value (2 ^ 64) (2 ^ 64) one.file another.file h.file i.file;
-  sum = sum_if_any (codes "sum") value one.sum another.sum h.sum i.sum;
   before = file_if_any value one.before another.before h.before i.before;
   lanes = one_list IsLaneStart IsSameStart one_start value one.lanes.items another.lanes.items h.lanes i.lanes;
+  hidden = number_if_any (codes "hidden") value (2 ^ 32) one.hidden another.hidden h.hidden i.hidden;
 }
 
 one_count : (value : Json) (one another : LaneCount) → IsLaneCount value one → IsLaneCount value another → another ≡ one
@@ -180,9 +186,38 @@ one_end : (value : Json) (one another : End) → IsEnd value one → IsEnd value
 one_end value one another h i = record {
   run = one_run value one.run another.run h.run i.run;
   time = one_time (codes "time") value one.time.now another.time.now h.time i.time;
-  sum = sum_if_any (codes "sum") value one.sum another.sum h.sum i.sum;
   lanes = sym (each_same one.lanes.items another.lanes.items (one_list IsLaneCount (λ x y. y ≡ x) one_count value one.lanes.items another.lanes.items h.lanes i.lanes));
+  hidden = number_if_any (codes "hidden") value (2 ^ 32) one.hidden another.hidden h.hidden i.hidden;
 }
+
+one_record_count : (kind : List ℕ) (value : Json) (one another : RecordCount) → IsRecordCount kind value one → IsRecordCount kind value another → IsSameCount one another
+one_record_count kind value one another h i = record {
+  run = one_run value one.run another.run h.run i.run;
+  time = one_time (codes "time") value one.time.now another.time.now h.time i.time;
+  home = one_text (codes "home") value one.home.now another.home.now h.home i.home;
+  lane = one_number (codes "lane") value (2 ^ 16) (2 ^ 16) one.lane another.lane h.lane i.lane;
+  number = one_number (codes "record") value (2 ^ 64) (2 ^ 64) one.number another.number h.record_is i.record_is;
+  count = one_number (codes "count") value (2 ^ 64) (2 ^ 64) one.count another.count h.count.there i.count.there;
+}
+
+kind_by : (s t : HiddenKind) → kind_text s ≡ kind_text t → s ≡ t
+kind_by AnEntry AnEntry e = refl
+kind_by ALeft ALeft e = refl
+kind_by AnUnsent AnUnsent e = refl
+kind_by AnAgain AnAgain e = refl
+kind_by s t e = absurd (omega (arith, ap (λ xs. get_or xs 0 0) e))
+
+kind_if_any : (value : Json) (s t : Option HiddenKind) → MayHaveKind value s → MayHaveKind value t → s ≡ t
+kind_if_any value None None h i = refl
+kind_if_any value (Some s) (Some t) h i = ap Some (kind_by s t (one_text (codes "kind") value (kind_text s) (kind_text t) h i))
+kind_if_any value s t h i = cc
+
+one_hidden : (value : Json) (one another : Hidden) → IsHidden value one → IsHidden value another → one ≡ another
+one_hidden value one another h i =
+    let lane : one.lane ≡ another.lane = number_if_any (codes "lane") value (2 ^ 16) one.lane another.lane h.lane i.lane in
+    let kind : one.kind ≡ another.kind = kind_if_any value one.kind another.kind h.kind i.kind in
+    let sum : one.sum ≡ another.sum = one_array (codes "sum") value 32 one.sum another.sum h.sum i.sum in
+    λ d. record { lane = lane d; kind = kind d; sum = sum d }
 
 -- ---- a line
 
@@ -191,19 +226,22 @@ one_line_of value (begins one) (begins another) h i = one_begin value one anothe
 one_line_of value (enters one) (enters another) h i = one_entry value one another h i
 one_line_of value (leaves one) (leaves another) h i = one_left value one another h i
 one_line_of value (ends one) (ends another) h i = one_end value one another h i
-one_line_of value (hides one) (hides another) h i =
-    let sum : one.sum ≡ another.sum = one_array (codes "sum") value 32 one.sum another.sum h.sum i.sum in
-    λ d. record { sum = sum d }
+one_line_of value (unsends one) (unsends another) h i = one_record_count (codes "unsent") value one another h i
+one_line_of value (repeats one) (repeats another) h i = one_record_count (codes "again") value one another h i
+one_line_of value (hides one) (hides another) h i = one_hidden value one another h i
 one_line_of value one another h i = absurd (omega (arith, unlike value _ _ h.type_is i.type_is))
 
 module _ (octets : List ℕ) where
-  pub one_line : (one another : Line) → IsLine octets one → IsLine octets another → IsSameLine one another
+  pub one_line : (one another : SummedLine) → IsLine octets one → IsLine octets another → IsSameSummed one another
   one_line one another h i =
       let same : h.value ≡ i.value = same_some h.value i.value (sym h.its_value.read ∙ i.its_value.read) in
-      one_line_of i.value one another (subst (λ value. IsLineOf value one) same h.is) i.is
+      record {
+        line = one_line_of i.value one.line another.line (subst (λ value. IsLineOf value one.line) same h.is) i.is;
+        sum = sum_if_any (codes "sum") i.value one.sum another.sum (subst (λ value. MayHaveSum (codes "sum") value one.sum) same h.sum) i.sum;
+      }
 
   -- what a reader answers
-  pub given_back : (line : Line) (answer : Result Line LineFault) → IsLine octets line → IsAnswer octets answer → GivesBack answer line
+  pub given_back : (line : SummedLine) (answer : Result SummedLine LineFault) → IsLine octets line → IsAnswer octets answer → GivesBack answer line
   given_back line (Ok its) h a = one_line its line a h
   given_back line (Err NotALine) h a = absurd (a (line, h))
   given_back line (Err OutOfMemory) h a = refl

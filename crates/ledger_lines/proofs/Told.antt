@@ -2,19 +2,19 @@
 use Rattle.std.proofs.Common.{◌≡◌, ℕ, zero, suc, ◌/◌, ◌%◌, ◌*◌, ◌<◌, ◌≤◌, ◌^◌, List, [], ◌∷◌, ◌++◌, codes, length, Bool, true, false, cond, option_map, Option, Some, None, decimal, inl, inr, refl, sym, ap, ◌∙◌, subst, arith}
 use Rattle.std.specs.Prelude.{⊤, option_copied}
 use Rattle.std.specs.Str.{bytes_eq, is_utf8}
-use Rattle.std.specs.List.{AllByRecursion}
+use Rattle.std.specs.List.{AllByRecursion, Contains}
 use Rattle.std.specs.Int.{w64, to_be_bytes}
 use Rattle.std.specs.Str.Parse.{IsNumeral, digits_value, without_leading_plus}
 use Rattle.std.proofs.lemmas.Nat.{from_be_bytes-to_be_bytes_8}
 use Rattle.std.proofs.lemmas.Fmt.{decimal_is_IsNumeral}
 use Rattle.std.proofs.lemmas.Str.Parse.{without_leading_plus_none, digit_at}
-use Rattle.std.proofs.lemmas.List.Elements.{recursion_from_All}
+use Rattle.std.proofs.lemmas.List.Elements.{All-from_recursion, recursion_from_All}
 use Rattle.json.specs.Json.{Json, string}
 use Rattle.json.specs.Find.{get}
 use Rattle.hex.specs.Hex.{IsBytes, encode_lower, lower_digits}
 use Rattle.hex.proofs.HexLemmas.{decode_of-encode_lower, length-encode_with}
 use Rattle.json_objects.specs.Written.{IsValue}
-use Rattle.ledger_lines.specs.Lines.{AreEach, HasNumber, MayHaveNumber, HasOctets, HasArray, HasRun, HasClient, IsAbout, IsBegin, IsEnd, IsEntry, IsFileBefore, IsLaneCount, IsLaneStart, IsLeft, IsLine, MayHaveFile, MayHaveSum, MayHaveTime, MayHaveWords}
+use Rattle.ledger_lines.specs.Lines.{AreEach, HasOnly, HasNumber, MayHaveNumber, HasOctets, HasArray, HasRun, HasClient, IsAbout, IsBegin, IsEnd, IsEntry, IsFileBefore, IsLaneCount, IsLaneStart, IsLeft, IsLine, MayHaveFile, MayHaveSum, MayHaveTime, MayHaveWords}
 use Rattle.rad_config.proofs.Addresses.{address_from_text}
 use Rattle.rad_realms.specs.Address.{IsAddress}
 use Rattle.rad_realms.specs.Printed.{address_text}
@@ -24,8 +24,10 @@ use Rattle.ledger_rules.specs.declared.line_request.LineRequest.{LineRequest}
 use Rattle.ledger_lines.specs.declared.begin.Begin.{Begin}
 use Rattle.ledger_lines.specs.declared.begin.FileBefore.{FileBefore}
 use Rattle.ledger_lines.specs.declared.lane_start.LaneStart.{LaneStart}
-use Rattle.json_objects.specs.Written.{items_of, number_value}
-use Rattle.ledger_lines.specs.Written.{AreBytesIfAny, IsBelowIfAny, IsReadableBegin, IsReadableCount, IsReadableEnd, IsReadableEntry, IsReadableFile, IsReadableFileIfAny, IsReadableLeft, IsReadableRequest, IsReadableStart, IsSumIfAny, IsTimeIfAny, begin_slots, begin_value, count_slots, count_value, digits_if_any, end_slots, end_value, entry_slots, entry_value, file_slots, file_value, lane_slots, left_slots, left_value, octets_value, packet_slots, request_slots, start_slots, start_value, state_slots, text_if_any}
+use Rattle.json_objects.specs.Written.{items_of, number_value, object_of, present}
+use Rattle.json_objects.proofs.Fine.{keys_all}
+use Rattle.json.specs.Strict.{keys}
+use Rattle.ledger_lines.specs.Written.{AreBytesIfAny, IsBelowIfAny, IsReadableBegin, IsReadableCount, IsReadableEnd, IsReadableEntry, IsReadableFile, IsReadableFileIfAny, IsReadableLeft, IsReadableRequest, IsReadableStart, IsSumIfAny, IsTimeIfAny, begin_slots, count_slots, count_value, digits_if_any, end_slots, entry_slots, file_slots, file_value, lane_slots, left_slots, octets_value, packet_slots, request_slots, start_slots, start_value, state_slots, sum_slot, text_if_any}
 use Rattle.ledger_lines.specs.declared.end.End.{End}
 use Rattle.ledger_lines.specs.declared.end.LaneCount.{LaneCount}
 use Rattle.ledger_lines.specs.declared.reading.Line.TheVariants.{Begin as begins, Entry as enters, Left as leaves, End as ends}
@@ -59,7 +61,7 @@ number_if_there key limit value (Some n) e le below = number_there key limit val
 octets_there : (key : List ℕ) (value : Json) (octets : List ℕ) → get key value ≡ Some (octets_value octets) → IsBytes octets → HasOctets key value octets
 octets_there key value octets e small = record { digits = encode_lower octets; there = e; are = decode_of-encode_lower octets small }
 
-array_there : (key : List ℕ) (count : ℕ) (value : Json) (octets : List ℕ) → get key value ≡ Some (octets_value octets) → length octets ≡ count → IsBytes octets → HasArray key count value octets
+pub array_there : (key : List ℕ) (count : ℕ) (value : Json) (octets : List ℕ) → get key value ≡ Some (octets_value octets) → length octets ≡ count → IsBytes octets → HasArray key count value octets
 array_there key count value octets e long small = record {
   digits = encode_lower octets;
   there = e;
@@ -67,7 +69,7 @@ array_there key count value octets e long small = record {
   are = decode_of-encode_lower octets small;
 }
 
-sum_if_there : (key : List ℕ) (value : Json) (sum : Option (List ℕ)) → get key value ≡ option_map octets_value sum → IsSumIfAny sum → MayHaveSum key value sum
+pub sum_if_there : (key : List ℕ) (value : Json) (sum : Option (List ℕ)) → get key value ≡ option_map octets_value sum → IsSumIfAny sum → MayHaveSum key value sum
 sum_if_there key value None e is = e
 sum_if_there key value (Some sum) e is = array_there key 32 value sum e is.long is.octets
 
@@ -125,15 +127,20 @@ are_each : {X : Type 0} (value : X → Json) (Is : Json → X → Type 0) (P : X
 are_each value Is P is [] all = tt
 are_each value Is P is (x ∷ xs) all = (is x all.0, are_each value Is P is xs all.1)
 
-pub end_read : (end : End) → IsReadableEnd end → IsEnd (end_value end) end
-end_read end h =
-    let at = λ (key : List ℕ). get_found key (end_slots end) refl in
+-- a line's members, with its sum
+abbrev pub summed : List (List ℕ × Option Json) → List ℕ → List (List ℕ × Option Json)
+summed slots sum = slots ++ sum_slot sum ∷ []
+
+pub end_read : (end : End) (sum : List ℕ) → IsReadableEnd end → IsEnd (object_of (summed (end_slots end) sum)) end
+end_read end sum h =
+    let slots = summed (end_slots end) sum in
+    let at = λ (key : List ℕ). get_found key slots refl in
     record {
-      no_other = only_names (end_slots end);
+      no_other = only_names slots;
       type_is = at (codes "type");
-      run = run_there (end_value end) end.run (at (codes "run")) h.run;
+      run = run_there (object_of slots) end.run (at (codes "run")) h.run;
       time = record { there = at (codes "time"); is = h.time };
-      sum = sum_if_there (codes "sum") (end_value end) end.sum (at (codes "sum")) h.sum;
+      hidden = number_if_there (codes "hidden") (2 ^ 32) (object_of slots) end.hidden (at (codes "hidden")) (omega arith) h.hidden;
       lanes = record {
         items = items_of count_value end.lanes.items;
         there = at (codes "lanes");
@@ -179,30 +186,35 @@ module _ (value : Json) (kind : List ℕ) (about : LineRequest) (rest : List (Li
     user = words_there (codes "user") (codes "user_octets") value (option_copied about.user) (at (codes "user") refl) (at (codes "user_octets") refl) h.user;
   }
 
-pub entry_read : (e : Entry) → IsReadableEntry e → IsEntry (entry_value e) e
-entry_read e h =
-    let at = λ (key : List ℕ). get_found key (entry_slots e) refl in
-    let value = entry_value e in
+pub entry_read : (e : Entry) (sum : List ℕ) → IsReadableEntry e → IsEntry (object_of (summed (entry_slots e) sum)) e
+entry_read e sum h =
+    let slots = summed (entry_slots e) sum in
+    let at = λ (key : List ℕ). get_found key slots refl in
+    let value = object_of slots in
+    let rest = packet_slots e ++ sum_slot sum ∷ [] in
     record {
-      no_other = only_names (entry_slots e);
+      no_other = only_names slots;
       type_is = at (codes "type");
       about =
-          about_there value (codes "entry") e.about (packet_slots e)
-          (λ key other. at key ∙ found_without key (codes "serial") (Some (number_value e.serial)) other (lane_slots (codes "entry") e.about) (request_slots e.about ++ packet_slots e)) h.about;
+          about_there value (codes "entry") e.about rest
+          (λ key other. at key ∙ found_without key (codes "serial") (Some (number_value e.serial)) other (lane_slots (codes "entry") e.about) (request_slots e.about ++ rest)) h.about;
       serial = number_there (codes "serial") (2 ^ 63) value e.serial (at (codes "serial")) (omega (arith, h.serial)) h.serial;
       sent = octets_there (codes "sent") value e.sent.now (at (codes "sent")) h.sent;
       reply = octets_there (codes "reply") value e.reply.now (at (codes "reply")) h.reply;
       response = octets_there (codes "response") value e.response.now (at (codes "response")) h.response;
+      accepted = time_if_there (codes "accepted") value (option_copied e.accepted) (at (codes "accepted")) h.accepted;
+      sendings = number_if_there (codes "sendings") (2 ^ 32) value e.sendings (at (codes "sendings")) (omega arith) h.sendings;
     }
 
-pub left_read : (left : Left) → IsReadableLeft left → IsLeft (left_value left) left
-left_read left h =
-    let at = λ (key : List ℕ). get_found key (left_slots left) refl in
-    let value = left_value left in
+pub left_read : (left : Left) (sum : List ℕ) → IsReadableLeft left → IsLeft (object_of (summed (left_slots left) sum)) left
+left_read left sum h =
+    let slots = summed (left_slots left) sum in
+    let at = λ (key : List ℕ). get_found key slots refl in
+    let value = object_of slots in
     record {
-      no_other = only_names (left_slots left);
+      no_other = only_names slots;
       type_is = at (codes "type");
-      about = about_there value (codes "left") left.about (state_slots left) (λ key other. at key) h.about;
+      about = about_there value (codes "left") left.about (state_slots left ++ sum_slot sum ∷ []) (λ key other. at key) h.about;
       state = at (codes "state");
       sendings = number_if_there (codes "sendings") (2 ^ 32) value left.sendings (at (codes "sendings")) (omega arith) h.sendings;
       accepted = time_if_there (codes "accepted") value (option_copied left.accepted) (at (codes "accepted")) h.accepted;
@@ -221,50 +233,41 @@ is_start start h =
       serial = number_there (codes "serial") (2 ^ 63) (start_value start) start.serial (at (codes "serial")) (omega (arith, h.serial)) h.serial;
     }
 
+-- its keys are among those that a reader knows
+file_keys : (file : FileBefore) → HasOnly (codes "name" ∷ codes "sum" ∷ codes "octets" ∷ codes "sha256" ∷ []) (file_value file)
+file_keys file =
+    let known = codes "name" ∷ codes "sum" ∷ codes "octets" ∷ codes "sha256" ∷ [] in
+    All-from_recursion (Contains known) (keys (present (file_slots file))) (keys_all (Contains known) (file_slots file) ((0, omega arith, refl), ((1, omega arith, refl), tt)))
+
 is_file : (file : FileBefore) → IsReadableFile file → IsFileBefore (file_value file) file
 is_file file h =
     let at = λ (key : List ℕ). get_found key (file_slots file) refl in
     record {
-      no_other = only_names (file_slots file);
+      no_other = file_keys file;
       name = at (codes "name");
-      octets = number_there (codes "octets") (2 ^ 64) (file_value file) file.octets (at (codes "octets")) h.octets h.octets;
-      sha256 = array_there (codes "sha256") 32 (file_value file) file.sha256 (at (codes "sha256")) h.sha256.long h.sha256.octets;
+      sum = sum_if_there (codes "sum") (file_value file) file.sum (at (codes "sum")) h.sum;
     }
 
 file_if_there : (value : Json) (file : Option FileBefore) → get (codes "before") value ≡ option_map file_value file → IsReadableFileIfAny file → MayHaveFile value file
 file_if_there value None e h = e
 file_if_there value (Some file) e h = record { found = file_value file; there = e; is = is_file file h }
 
-pub begin_read : (begin : Begin) → IsReadableBegin begin → IsBegin (begin_value begin) begin
-begin_read begin h =
-    let at = λ (key : List ℕ). get_found key (begin_slots begin) refl in
+pub begin_read : (begin : Begin) (sum : List ℕ) → IsReadableBegin begin → IsBegin (object_of (summed (begin_slots begin) sum)) begin
+begin_read begin sum h =
+    let slots = summed (begin_slots begin) sum in
+    let at = λ (key : List ℕ). get_found key slots refl in
     record {
-      no_other = only_names (begin_slots begin);
+      no_other = only_names slots;
       type_is = at (codes "type");
-      run = run_there (begin_value begin) begin.run (at (codes "run")) h.run;
+      run = run_there (object_of slots) begin.run (at (codes "run")) h.run;
       time = record { there = at (codes "time"); is = h.time };
       version = at (codes "version");
-      file = number_there (codes "file") (2 ^ 64) (begin_value begin) begin.file (at (codes "file")) h.file h.file;
-      sum = sum_if_there (codes "sum") (begin_value begin) begin.sum (at (codes "sum")) h.sum;
-      before = file_if_there (begin_value begin) begin.before (at (codes "before")) h.before;
+      file = number_there (codes "file") (2 ^ 64) (object_of slots) begin.file (at (codes "file")) h.file h.file;
+      before = file_if_there (object_of slots) begin.before (at (codes "before")) h.before;
+      hidden = number_if_there (codes "hidden") (2 ^ 32) (object_of slots) begin.hidden (at (codes "hidden")) (omega arith) h.hidden;
       lanes = record {
         items = items_of start_value begin.lanes.items;
         there = at (codes "lanes");
         are = are_each start_value IsLaneStart IsReadableStart is_start begin.lanes.items (recursion_from_All IsReadableStart begin.lanes.items h.lanes);
       };
     }
-
--- ---- octets that are a line's value
-
-module _ (octets : List ℕ) (most : length octets ≤ 65536) where
-  pub begin_line : (begin : Begin) → IsReadableBegin begin → IsValue octets (begin_value begin) → IsLine octets (begins begin)
-  begin_line begin h its = record { most = most; value = begin_value begin; its_value = its; is = begin_read begin h }
-
-  pub entry_line : (e : Entry) → IsReadableEntry e → IsValue octets (entry_value e) → IsLine octets (enters e)
-  entry_line e h its = record { most = most; value = entry_value e; its_value = its; is = entry_read e h }
-
-  pub left_line : (left : Left) → IsReadableLeft left → IsValue octets (left_value left) → IsLine octets (leaves left)
-  left_line left h its = record { most = most; value = left_value left; its_value = its; is = left_read left h }
-
-  pub end_line : (end : End) → IsReadableEnd end → IsValue octets (end_value end) → IsLine octets (ends end)
-  end_line end h its = record { most = most; value = end_value end; its_value = its; is = end_read end h }

@@ -1,5 +1,5 @@
 -- Which line a value is, by its type; and which line octets are.
-use Rattle.std.proofs.Common.{◌≡◌, ◌≢◌, ℕ, ◌<◌, ◌≤◌, List, length, codes, sym, ◌∙◌, subst, arith}
+use Rattle.std.proofs.Common.{◌≡◌, ◌≢◌, ℕ, ◌<◌, ◌≤◌, List, length, codes, Option, sym, ◌∙◌, subst, arith}
 use Rattle.json.specs.Json.{Json}
 use Rattle.json_objects.specs.Written.{IsValue}
 use Rattle.ledger_rules.specs.declared.entry.Entry.{Entry}
@@ -7,10 +7,12 @@ use Rattle.ledger_rules.specs.declared.left.Left.{Left}
 use Rattle.ledger_lines.specs.declared.begin.Begin.{Begin}
 use Rattle.ledger_lines.specs.declared.end.End.{End}
 use Rattle.ledger_lines.specs.declared.hidden.Hidden.{Hidden}
-use Rattle.ledger_lines.specs.Lines.{Denies, HasText, IsBegin, IsEnd, IsEntry, IsHidden, IsLeft, IsLine, IsLineOf}
+use Rattle.ledger_lines.specs.Lines.{Denies, HasText, IsBegin, IsEnd, IsEntry, IsHidden, IsLeft, IsLine, IsLineOf, IsRecordCount, MayHaveSum}
 use Rattle.ledger_lines.specs.declared.faults.LineFault.{LineFault}
 use Rattle.ledger_lines.specs.declared.reading.Line.{Line}
-use Rattle.ledger_lines.specs.declared.reading.Line.TheVariants.{Begin as begins, Entry as enters, Left as leaves, End as ends, Hidden as hides}
+use Rattle.ledger_lines.specs.declared.reading.SummedLine.{SummedLine}
+use Rattle.ledger_rules.specs.declared.record_count.RecordCount.{RecordCount}
+use Rattle.ledger_lines.specs.declared.reading.Line.TheVariants.{Begin as begins, Entry as enters, Left as leaves, Unsent as unsends, Again as repeats, End as ends, Hidden as hides}
 use Rattle.ledger_lines.proofs.Lines.{denied}
 use Rattle.ledger_lines.proofs.Found.{same_some, one_text, unlike, TextThere}
 use Rattle.ledger_lines.proofs.Parts.{ValueThere}
@@ -23,6 +25,8 @@ module _ (value : Json) where
   type_of (begins b, p) = (codes "begin", p.type_is)
   type_of (enters e, p) = (codes "entry", p.type_is)
   type_of (leaves l, p) = (codes "left", p.type_is)
+  type_of (unsends c, p) = (codes "unsent", p.type_is)
+  type_of (repeats c, p) = (codes "again", p.type_is)
   type_of (ends e, p) = (codes "end", p.type_is)
   type_of (hides h, p) = (codes "hidden", p.type_is)
 
@@ -46,20 +50,30 @@ module _ (value : Json) where
   hidden_in t (hides x, p) = (x, p)
   hidden_in t (other, p) = absurd (omega (arith, unlike value _ _ t p.type_is))
 
+  pub unsent_in : HasText (codes "type") value (codes "unsent") → LineThere → (x : RecordCount) × IsRecordCount (codes "unsent") value x
+  unsent_in t (unsends x, p) = (x, p)
+  unsent_in t (other, p) = absurd (omega (arith, unlike value _ _ t p.type_is))
+
+  pub again_in : HasText (codes "type") value (codes "again") → LineThere → (x : RecordCount) × IsRecordCount (codes "again") value x
+  again_in t (repeats x, p) = (x, p)
+  again_in t (other, p) = absurd (omega (arith, unlike value _ _ t p.type_is))
+
   module _ (text : List ℕ) (there : HasText (codes "type") value text) where
     one_type : (other : List ℕ) → HasText (codes "type") value other → text ≡ other
     one_type other also = one_text (codes "type") value text other there also
 
-    pub other_denied : text ≢ codes "entry" → text ≢ codes "left" → text ≢ codes "begin" → text ≢ codes "end" → text ≢ codes "hidden" → ¬ LineThere
-    other_denied n l b e h (begins x, p) = b (one_type (codes "begin") p.type_is)
-    other_denied n l b e h (enters x, p) = n (one_type (codes "entry") p.type_is)
-    other_denied n l b e h (leaves x, p) = l (one_type (codes "left") p.type_is)
-    other_denied n l b e h (ends x, p) = e (one_type (codes "end") p.type_is)
-    other_denied n l b e h (hides x, p) = h (one_type (codes "hidden") p.type_is)
+    pub other_denied : text ≢ codes "entry" → text ≢ codes "left" → text ≢ codes "begin" → text ≢ codes "end" → text ≢ codes "hidden" → text ≢ codes "unsent" → text ≢ codes "again" → ¬ LineThere
+    other_denied n l b e h u a (begins x, p) = b (one_type (codes "begin") p.type_is)
+    other_denied n l b e h u a (enters x, p) = n (one_type (codes "entry") p.type_is)
+    other_denied n l b e h u a (leaves x, p) = l (one_type (codes "left") p.type_is)
+    other_denied n l b e h u a (unsends c, p) = u (one_type (codes "unsent") p.type_is)
+    other_denied n l b e h u a (repeats c, p) = a (one_type (codes "again") p.type_is)
+    other_denied n l b e h u a (ends x, p) = e (one_type (codes "end") p.type_is)
+    other_denied n l b e h u a (hides x, p) = h (one_type (codes "hidden") p.type_is)
 
 module _ (octets : List ℕ) (fault : LineFault) where
   abbrev pub IsLineThere : Type 0
-  IsLineThere = (line : Line) × IsLine octets line
+  IsLineThere = (line : SummedLine) × IsLine octets line
 
   pub too_long : 65536 < length octets → ¬ IsLineThere
   too_long long p = omega (arith, long, p.1.most)
@@ -71,7 +85,12 @@ module _ (octets : List ℕ) (fault : LineFault) where
     pub no_line : Denies fault (LineThere value) → Denies fault IsLineThere
     no_line d =
         denied (LineThere value) IsLineThere
-        (λ p. (p.0, subst (λ v. IsLineOf v p.0) (same_some p.1.value value (sym p.1.its_value.read ∙ its.read)) p.1.is)) fault d
+        (λ p. (p.0.line, subst (λ v. IsLineOf v p.0.line) (same_some p.1.value value (sym p.1.its_value.read ∙ its.read)) p.1.is)) fault d
 
-    pub is_line : (line : Line) → length octets ≤ 65536 → IsLineOf value line → IsLine octets line
-    is_line line most is = record { most = most; value = value; its_value = its; is = is }
+    pub no_sum_no_line : Denies fault ((sum : Option (List ℕ)) × MayHaveSum (codes "sum") value sum) → Denies fault IsLineThere
+    no_sum_no_line d =
+        denied ((sum : Option (List ℕ)) × MayHaveSum (codes "sum") value sum) IsLineThere
+        (λ p. (p.0.sum, subst (λ v. MayHaveSum (codes "sum") v p.0.sum) (same_some p.1.value value (sym p.1.its_value.read ∙ its.read)) p.1.sum)) fault d
+
+    pub is_line : (line : SummedLine) → length octets ≤ 65536 → MayHaveSum (codes "sum") value line.sum → IsLineOf value line.line → IsLine octets line
+    is_line line most sum is = record { most = most; value = value; its_value = its; sum = sum; is = is }

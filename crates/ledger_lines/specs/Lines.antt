@@ -15,17 +15,21 @@ use Rattle.ledger_rules.specs.declared.left.Left.{Left}
 use Rattle.rad_lane.specs.declared.leftover.LeftState.{LeftState}
 use Rattle.rad_lane.specs.declared.leftover.LeftState.TheVariants.{Queued, Outstanding, Untaken}
 use Rattle.ledger_rules.specs.declared.line_request.LineRequest.{LineRequest}
+use Rattle.ledger_rules.specs.declared.record_count.RecordCount.{RecordCount}
 use Rattle.ledger_lines.specs.Moments.{IsMoment}
 use Rattle.ledger_lines.specs.declared.begin.Begin.{Begin}
 use Rattle.ledger_lines.specs.declared.end.End.{End}
 use Rattle.ledger_lines.specs.declared.begin.FileBefore.{FileBefore}
 use Rattle.ledger_lines.specs.declared.hidden.Hidden.{Hidden}
+use Rattle.ledger_lines.specs.declared.hidden.HiddenKind.{HiddenKind}
+use Rattle.ledger_lines.specs.declared.hidden.HiddenKind.TheVariants.{Entry as AnEntry, Left as ALeft, Unsent as AnUnsent, Again as AnAgain}
 use Rattle.ledger_lines.specs.declared.lane_start.LaneStart.{LaneStart}
 use Rattle.ledger_lines.specs.declared.end.LaneCount.{LaneCount}
 use Rattle.ledger_lines.specs.declared.faults.LineFault.{LineFault}
 use Rattle.ledger_lines.specs.declared.faults.LineFault.TheVariants.{NotALine, OutOfMemory}
 use Rattle.ledger_lines.specs.declared.reading.Line.{Line}
-use Rattle.ledger_lines.specs.declared.reading.Line.TheVariants.{Begin as begins, Entry as enters, Left as leaves, End as ends, Hidden as hides}
+use Rattle.ledger_lines.specs.declared.reading.SummedLine.{SummedLine}
+use Rattle.ledger_lines.specs.declared.reading.Line.TheVariants.{Begin as begins, Entry as enters, Left as leaves, Unsent as unsends, Again as repeats, End as ends, Hidden as hides}
 
 -- A fault tells that nothing is there, where it is not want of memory.
 abbrev pub Denies : LineFault → Type 0 → Type 0
@@ -138,7 +142,8 @@ abbrev pub keys_of_entry : List (List ℕ)
 keys_of_entry =
     codes "type" ∷ codes "run" ∷ codes "time" ∷ codes "home" ∷ codes "lane" ∷ codes "serial" ∷ codes "record" ∷ codes "client" ∷ codes "port"
     ∷ codes "identifier" ∷ codes "authenticator" ∷ codes "realm" ∷ codes "realm_octets" ∷ codes "session" ∷ codes "session_octets"
-    ∷ codes "status" ∷ codes "user" ∷ codes "user_octets" ∷ codes "sent" ∷ codes "reply" ∷ codes "response" ∷ []
+    ∷ codes "status" ∷ codes "user" ∷ codes "user_octets" ∷ codes "sent" ∷ codes "reply" ∷ codes "response" ∷ codes "accepted"
+    ∷ codes "sendings" ∷ codes "sum" ∷ []
 
 pub record IsEntry (value : Json) (e : Entry) : Type 0 where
   pub no_other : HasOnly keys_of_entry value
@@ -148,6 +153,8 @@ pub record IsEntry (value : Json) (e : Entry) : Type 0 where
   pub sent : HasOctets (codes "sent") value e.sent.now
   pub reply : HasOctets (codes "reply") value e.reply.now
   pub response : HasOctets (codes "response") value e.response.now
+  pub accepted : MayHaveTime (codes "accepted") value (option_copied e.accepted)
+  pub sendings : MayHaveNumber (codes "sendings") (2 ^ 32) value e.sendings
 
 -- How a request was left, as a line has it.
 abbrev pub state_text : LeftState → List ℕ
@@ -163,7 +170,7 @@ abbrev pub keys_of_left : List (List ℕ)
 keys_of_left =
     codes "type" ∷ codes "run" ∷ codes "time" ∷ codes "home" ∷ codes "lane" ∷ codes "record" ∷ codes "client" ∷ codes "port"
     ∷ codes "identifier" ∷ codes "authenticator" ∷ codes "realm" ∷ codes "realm_octets" ∷ codes "session" ∷ codes "session_octets"
-    ∷ codes "status" ∷ codes "user" ∷ codes "user_octets" ∷ codes "state" ∷ codes "sendings" ∷ codes "accepted" ∷ codes "request" ∷ []
+    ∷ codes "status" ∷ codes "user" ∷ codes "user_octets" ∷ codes "state" ∷ codes "sendings" ∷ codes "accepted" ∷ codes "request" ∷ codes "sum" ∷ []
 
 pub record IsLeft (value : Json) (left : Left) : Type 0 where
   pub no_other : HasOnly keys_of_left value
@@ -211,12 +218,12 @@ pub record IsLaneCount (value : Json) (count : LaneCount) : Type 0 where
   pub left : MayHaveNumber (codes "left") (2 ^ 64) value count.left
   pub both_or_none : is_some count.accepted ≡ is_some count.left
 
--- The file of another run, which the first line of a file may name.
+-- The file of another run, which the first line of a file may name, with the sum of its last whole line. An earlier version had its
+-- octets and their SHA-256 instead, of which nothing is asked.
 pub record IsFileBefore (value : Json) (file : FileBefore) : Type 0 where
-  pub no_other : HasOnly (codes "name" ∷ codes "octets" ∷ codes "sha256" ∷ []) value
+  pub no_other : HasOnly (codes "name" ∷ codes "sum" ∷ codes "octets" ∷ codes "sha256" ∷ []) value
   pub name : HasText (codes "name") value file.name.now
-  pub octets : HasNumber (codes "octets") (2 ^ 64) value file.octets
-  pub sha256 : HasArray (codes "sha256") 32 value file.sha256
+  pub sum : MayHaveSum (codes "sum") value file.sum
 
 pub record HasFile (value : Json) (file : FileBefore) : Type 0 where
   pub found : Json
@@ -230,7 +237,8 @@ MayHaveFile value (Some file) = HasFile value file
 -- The keys of the first line of a file, with those that it may lack.
 abbrev pub keys_of_begin : List (List ℕ)
 keys_of_begin =
-    codes "type" ∷ codes "run" ∷ codes "time" ∷ codes "version" ∷ codes "file" ∷ codes "sum" ∷ codes "before" ∷ codes "lanes" ∷ []
+    codes "type" ∷ codes "run" ∷ codes "time" ∷ codes "version" ∷ codes "file" ∷ codes "before" ∷ codes "lanes" ∷ codes "hidden"
+    ∷ codes "sum" ∷ []
 
 pub record IsBegin (value : Json) (begin : Begin) : Type 0 where
   pub no_other : HasOnly keys_of_begin value
@@ -239,34 +247,68 @@ pub record IsBegin (value : Json) (begin : Begin) : Type 0 where
   pub time : HasTime (codes "time") value begin.time.now
   pub version : HasText (codes "version") value begin.version.now
   pub file : HasNumber (codes "file") (2 ^ 64) value begin.file
-  pub sum : MayHaveSum (codes "sum") value begin.sum
   pub before : MayHaveFile value begin.before
   pub lanes : HasLanes IsLaneStart value begin.lanes.items
+  pub hidden : MayHaveNumber (codes "hidden") (2 ^ 32) value begin.hidden
 
 pub record IsEnd (value : Json) (end : End) : Type 0 where
-  pub no_other : HasOnly (codes "type" ∷ codes "run" ∷ codes "time" ∷ codes "sum" ∷ codes "lanes" ∷ []) value
+  pub no_other : HasOnly (codes "type" ∷ codes "run" ∷ codes "time" ∷ codes "lanes" ∷ codes "hidden" ∷ codes "sum" ∷ []) value
   pub type_is : HasText (codes "type") value (codes "end")
   pub run : HasRun value end.run
   pub time : HasTime (codes "time") value end.time.now
-  pub sum : MayHaveSum (codes "sum") value end.sum
   pub lanes : HasLanes IsLaneCount value end.lanes.items
+  pub hidden : MayHaveNumber (codes "hidden") (2 ^ 32) value end.hidden
+
+-- A line of this kind that counts what became of the response of a record: at least once.
+pub record HasSome (value : Json) (its : ℕ) : Type 0 where
+  pub there : HasNumber (codes "count") (2 ^ 64) value its
+  pub some : 0 < its
+
+pub record IsRecordCount (kind : List ℕ) (value : Json) (its : RecordCount) : Type 0 where
+  pub no_other : HasOnly (codes "type" ∷ codes "run" ∷ codes "time" ∷ codes "home" ∷ codes "lane" ∷ codes "record" ∷ codes "count" ∷ codes "sum" ∷ []) value
+  pub type_is : HasText (codes "type") value kind
+  pub run : HasRun value its.run
+  pub time : HasTime (codes "time") value its.time.now
+  pub home : HasText (codes "home") value its.home.now
+  pub lane : HasNumber (codes "lane") (2 ^ 16) value its.lane
+  pub record_is : HasNumber (codes "record") (2 ^ 64) value its.number
+  pub count : HasSome value its.count
+
+-- The kind of a line that is left out, as the line in its place has it.
+abbrev pub kind_text : HiddenKind → List ℕ
+kind_text AnEntry = codes "entry"
+kind_text ALeft = codes "left"
+kind_text AnUnsent = codes "unsent"
+kind_text AnAgain = codes "again"
+
+abbrev pub HasKind : Json → HiddenKind → Type 0
+HasKind value kind = HasText (codes "kind") value (kind_text kind)
+
+abbrev pub MayHaveKind : Json → Option HiddenKind → Type 0
+MayHaveKind value None = Lacks (codes "kind") value
+MayHaveKind value (Some kind) = HasKind value kind
 
 -- A line that stands for one that is left out.
 pub record IsHidden (value : Json) (hidden : Hidden) : Type 0 where
-  pub no_other : HasOnly (codes "type" ∷ codes "sum" ∷ []) value
+  pub no_other : HasOnly (codes "type" ∷ codes "lane" ∷ codes "kind" ∷ codes "sum" ∷ []) value
   pub type_is : HasText (codes "type") value (codes "hidden")
+  pub lane : MayHaveNumber (codes "lane") (2 ^ 16) value hidden.lane
+  pub kind : MayHaveKind value hidden.kind
   pub sum : HasArray (codes "sum") 32 value hidden.sum
 
 abbrev pub IsLineOf : Json → Line → Type 0
 IsLineOf value (begins begin) = IsBegin value begin
 IsLineOf value (enters entry) = IsEntry value entry
 IsLineOf value (leaves left) = IsLeft value left
+IsLineOf value (unsends its) = IsRecordCount (codes "unsent") value its
+IsLineOf value (repeats its) = IsRecordCount (codes "again") value its
 IsLineOf value (ends end) = IsEnd value end
 IsLineOf value (hides hidden) = IsHidden value hidden
 
--- Octets that are a line of a ledger, of at most so many.
-pub record IsLine (octets : List ℕ) (line : Line) : Type 0 where
+-- Octets that are a line of a ledger, of at most so many, with its sum, if it has one.
+pub record IsLine (octets : List ℕ) (line : SummedLine) : Type 0 where
   pub most : length octets ≤ 65536
   pub value : Json
   pub its_value : IsValue octets value
-  pub is : IsLineOf value line
+  pub sum : MayHaveSum (codes "sum") value line.sum
+  pub is : IsLineOf value line.line

@@ -5,6 +5,7 @@ use Rattle.std.specs.List.{AllZip}
 use Rattle.ledger_rules.specs.declared.entry.Entry.{Entry}
 use Rattle.ledger_rules.specs.declared.left.Left.{Left}
 use Rattle.ledger_rules.specs.declared.line_request.LineRequest.{LineRequest}
+use Rattle.ledger_rules.specs.declared.record_count.RecordCount.{RecordCount}
 use Rattle.ledger_lines.specs.Lines.{Denies, IsLine}
 use Rattle.ledger_lines.specs.declared.begin.Begin.{Begin}
 use Rattle.ledger_lines.specs.declared.end.End.{End}
@@ -13,7 +14,8 @@ use Rattle.ledger_lines.specs.declared.lane_start.LaneStart.{LaneStart}
 use Rattle.ledger_lines.specs.declared.faults.LineFault.{LineFault}
 use Rattle.ledger_lines.specs.declared.faults.LineFault.TheVariants.{OutOfMemory}
 use Rattle.ledger_lines.specs.declared.reading.Line.{Line}
-use Rattle.ledger_lines.specs.declared.reading.Line.TheVariants.{Begin as begins, Entry as enters, Left as leaves, End as ends, Hidden as hides}
+use Rattle.ledger_lines.specs.declared.reading.SummedLine.{SummedLine}
+use Rattle.ledger_lines.specs.declared.reading.Line.TheVariants.{Begin as begins, Entry as enters, Left as leaves, Unsent as unsends, Again as repeats, End as ends, Hidden as hides}
 
 pub record IsSameRequest (one another : LineRequest) : Type 0 where
   pub run : one.run ≡ another.run
@@ -36,6 +38,8 @@ pub record IsSameEntry (one another : Entry) : Type 0 where
   pub sent : one.sent.now ≡ another.sent.now
   pub reply : one.reply.now ≡ another.reply.now
   pub response : one.response.now ≡ another.response.now
+  pub accepted : option_copied one.accepted ≡ option_copied another.accepted
+  pub sendings : one.sendings ≡ another.sendings
 
 pub record IsSameLeft (one another : Left) : Type 0 where
   pub about : IsSameRequest one.about another.about
@@ -51,8 +55,7 @@ pub record IsSameStart (one another : LaneStart) : Type 0 where
 
 pub record IsSameFile (one another : FileBefore) : Type 0 where
   pub name : one.name.now ≡ another.name.now
-  pub octets : one.octets ≡ another.octets
-  pub sha256 : one.sha256 ≡ another.sha256
+  pub sum : one.sum ≡ another.sum
 
 abbrev pub IsSameFileIfAny : Option FileBefore → Option FileBefore → Type 0
 IsSameFileIfAny None None = ⊤
@@ -65,29 +68,44 @@ pub record IsSameBegin (one another : Begin) : Type 0 where
   pub time : one.time.now ≡ another.time.now
   pub version : one.version.now ≡ another.version.now
   pub file : one.file ≡ another.file
-  pub sum : one.sum ≡ another.sum
   pub before : IsSameFileIfAny one.before another.before
   pub lanes : AllZip IsSameStart one.lanes.items another.lanes.items
+  pub hidden : one.hidden ≡ another.hidden
 
 pub record IsSameEnd (one another : End) : Type 0 where
   pub run : one.run ≡ another.run
   pub time : one.time.now ≡ another.time.now
-  pub sum : one.sum ≡ another.sum
   pub lanes : one.lanes.items ≡ another.lanes.items
+  pub hidden : one.hidden ≡ another.hidden
+
+pub record IsSameCount (one another : RecordCount) : Type 0 where
+  pub run : one.run ≡ another.run
+  pub time : one.time.now ≡ another.time.now
+  pub home : one.home.now ≡ another.home.now
+  pub lane : one.lane ≡ another.lane
+  pub number : one.number ≡ another.number
+  pub count : one.count ≡ another.count
 
 -- Lines of two kinds never say the same.
 abbrev pub IsSameLine : Line → Line → Type 0
 IsSameLine (begins one) (begins another) = IsSameBegin one another
 IsSameLine (enters one) (enters another) = IsSameEntry one another
 IsSameLine (leaves one) (leaves another) = IsSameLeft one another
+IsSameLine (unsends one) (unsends another) = IsSameCount one another
+IsSameLine (repeats one) (repeats another) = IsSameCount one another
 IsSameLine (ends one) (ends another) = IsSameEnd one another
 IsSameLine (hides one) (hides another) = one ≡ another
 IsSameLine one another = ⊥
 
+-- Lines with the same sum, or without one.
+pub record IsSameSummed (one another : SummedLine) : Type 0 where
+  pub line : IsSameLine one.line another.line
+  pub sum : one.sum ≡ another.sum
+
 -- What a reader answers of octets: a line that they are, or a fault that denies that they are one.
-abbrev pub IsAnswer : List ℕ → Result Line LineFault → Type 0
-IsAnswer octets answer = MatchResult answer (λ line. IsLine octets line) (λ fault. Denies fault ((line : Line) × IsLine octets line))
+abbrev pub IsAnswer : List ℕ → Result SummedLine LineFault → Type 0
+IsAnswer octets answer = MatchResult answer (λ line. IsLine octets line) (λ fault. Denies fault ((line : SummedLine) × IsLine octets line))
 
 -- This line again, unless memory was refused.
-abbrev pub GivesBack : Result Line LineFault → Line → Type 0
-GivesBack answer line = MatchResult answer (λ its. IsSameLine its line) (λ fault. fault ≡ OutOfMemory)
+abbrev pub GivesBack : Result SummedLine LineFault → SummedLine → Type 0
+GivesBack answer line = MatchResult answer (λ its. IsSameSummed its line) (λ fault. fault ≡ OutOfMemory)

@@ -1,5 +1,5 @@
 -- Which value of JSON the line of each kind is, and what a reader asks of what it is made of (own).
-use Rattle.std.specs.Prelude.{◌≡◌, ℕ, ◌<◌, ◌^◌, List, [], ◌∷◌, ◌++◌, length, codes, cond, Option, Some, None, option_copied, option_map, is_some, ⊤}
+use Rattle.std.specs.Prelude.{◌≡◌, ℕ, ◌<◌, ◌≤◌, ◌^◌, List, [], ◌∷◌, ◌++◌, length, codes, cond, Option, Some, None, option_copied, option_map, is_some, ⊤}
 use Rattle.std.specs.List.{All}
 use Rattle.std.specs.Int.{w64, to_be_bytes}
 use Rattle.std.specs.Str.{is_utf8}
@@ -11,13 +11,14 @@ use Rattle.ledger_rules.specs.declared.entry.Entry.{Entry}
 use Rattle.ledger_rules.specs.declared.left.Left.{Left}
 use Rattle.ledger_rules.specs.declared.line_request.LineRequest.{LineRequest}
 use Rattle.json_objects.specs.Written.{items_of, number_value, object_of}
-pub use Rattle.json_objects.specs.Written.{HasLineBehind, HasValueBehind}
-use Rattle.ledger_lines.specs.Lines.{IsTime, state_text}
+pub use Rattle.json_objects.specs.Written.{HasBodyBehind, HasFrontBehind}
+use Rattle.ledger_lines.specs.Lines.{IsLine, IsTime, state_text}
 use Rattle.ledger_lines.specs.declared.begin.Begin.{Begin}
 use Rattle.ledger_lines.specs.declared.end.End.{End}
 use Rattle.ledger_lines.specs.declared.begin.FileBefore.{FileBefore}
 use Rattle.ledger_lines.specs.declared.end.LaneCount.{LaneCount}
 use Rattle.ledger_lines.specs.declared.lane_start.LaneStart.{LaneStart}
+use Rattle.ledger_lines.specs.declared.reading.Line.{Line}
 
 -- Octets, as two hexadecimal digits each.
 abbrev pub octets_value : List ℕ → Json
@@ -53,10 +54,11 @@ request_slots about =
     ++ (words_slots (codes "session") (codes "session_octets") (option_copied about.session) ++ (codes "status", option_map number_value about.status)
     ∷ words_slots (codes "user") (codes "user_octets") (option_copied about.user)))
 
--- An entry, with its packets last.
+-- An entry, with its packets, the moment of its acceptance and how often it was sent last.
 abbrev pub packet_slots : Entry → List (List ℕ × Option Json)
 packet_slots e =
-    (codes "sent", Some (octets_value e.sent.now)) ∷ (codes "reply", Some (octets_value e.reply.now)) ∷ (codes "response", Some (octets_value e.response.now)) ∷ []
+    (codes "sent", Some (octets_value e.sent.now)) ∷ (codes "reply", Some (octets_value e.reply.now)) ∷ (codes "response", Some (octets_value e.response.now))
+    ∷ (codes "accepted", option_map string (option_copied e.accepted)) ∷ (codes "sendings", option_map number_value e.sendings) ∷ []
 
 abbrev pub entry_slots : Entry → List (List ℕ × Option Json)
 entry_slots e = lane_slots (codes "entry") e.about ++ (codes "serial", Some (number_value e.serial)) ∷ (request_slots e.about ++ packet_slots e)
@@ -86,8 +88,7 @@ start_value start = object_of (start_slots start)
 
 abbrev pub file_slots : FileBefore → List (List ℕ × Option Json)
 file_slots file =
-    (codes "name", Some (string file.name.now)) ∷ (codes "octets", Some (number_value file.octets))
-    ∷ (codes "sha256", Some (octets_value file.sha256)) ∷ []
+    (codes "name", Some (string file.name.now)) ∷ (codes "sum", option_map octets_value file.sum) ∷ []
 
 abbrev pub file_value : FileBefore → Json
 file_value file = object_of (file_slots file)
@@ -96,8 +97,8 @@ abbrev pub begin_slots : Begin → List (List ℕ × Option Json)
 begin_slots begin =
     first_slots (codes "begin") begin.run begin.time.now
     ++ (codes "version", Some (string begin.version.now)) ∷ (codes "file", Some (number_value begin.file))
-    ∷ (codes "sum", option_map octets_value begin.sum) ∷ (codes "before", option_map file_value begin.before)
-    ∷ (codes "lanes", Some (array (items_of start_value begin.lanes.items))) ∷ []
+    ∷ (codes "before", option_map file_value begin.before) ∷ (codes "lanes", Some (array (items_of start_value begin.lanes.items)))
+    ∷ (codes "hidden", option_map number_value begin.hidden) ∷ []
 
 abbrev pub begin_value : Begin → Json
 begin_value begin = object_of (begin_slots begin)
@@ -114,7 +115,7 @@ count_value count = object_of (count_slots count)
 abbrev pub end_slots : End → List (List ℕ × Option Json)
 end_slots end =
     first_slots (codes "end") end.run end.time.now
-    ++ (codes "sum", option_map octets_value end.sum) ∷ (codes "lanes", Some (array (items_of count_value end.lanes.items))) ∷ []
+    ++ (codes "lanes", Some (array (items_of count_value end.lanes.items))) ∷ (codes "hidden", option_map number_value end.hidden) ∷ []
 
 abbrev pub end_value : End → Json
 end_value end = object_of (end_slots end)
@@ -143,7 +144,7 @@ pub record IsReadableCount (count : LaneCount) : Type 0 where
 pub record IsReadableEnd (end : End) : Type 0 where
   pub run : end.run < 2 ^ 64
   pub time : IsTime end.time.now
-  pub sum : IsSumIfAny end.sum
+  pub hidden : IsBelowIfAny (2 ^ 32) end.hidden
   pub lanes : All IsReadableCount end.lanes.items
 
 pub record IsReadableStart (start : LaneStart) : Type 0 where
@@ -151,8 +152,7 @@ pub record IsReadableStart (start : LaneStart) : Type 0 where
   pub serial : start.serial < 2 ^ 63
 
 pub record IsReadableFile (file : FileBefore) : Type 0 where
-  pub octets : file.octets < 2 ^ 64
-  pub sha256 : IsSum file.sha256
+  pub sum : IsSumIfAny file.sum
 
 abbrev pub IsReadableFileIfAny : Option FileBefore → Type 0
 IsReadableFileIfAny None = ⊤
@@ -162,7 +162,7 @@ pub record IsReadableBegin (begin : Begin) : Type 0 where
   pub run : begin.run < 2 ^ 64
   pub time : IsTime begin.time.now
   pub file : begin.file < 2 ^ 64
-  pub sum : IsSumIfAny begin.sum
+  pub hidden : IsBelowIfAny (2 ^ 32) begin.hidden
   pub before : IsReadableFileIfAny begin.before
   pub lanes : All IsReadableStart begin.lanes.items
 
@@ -186,19 +186,32 @@ pub record IsReadableRequest (about : LineRequest) : Type 0 where
   pub status : IsBelowIfAny (2 ^ 32) about.status
   pub user : AreBytesIfAny (option_copied about.user)
 
+abbrev pub IsTimeIfAny : Option (List ℕ) → Type 0
+IsTimeIfAny None = ⊤
+IsTimeIfAny (Some time) = IsTime time
+
 pub record IsReadableEntry (e : Entry) : Type 0 where
   pub about : IsReadableRequest e.about
   pub serial : e.serial < 2 ^ 63
   pub sent : IsBytes e.sent.now
   pub reply : IsBytes e.reply.now
   pub response : IsBytes e.response.now
-
-abbrev pub IsTimeIfAny : Option (List ℕ) → Type 0
-IsTimeIfAny None = ⊤
-IsTimeIfAny (Some time) = IsTime time
+  pub accepted : IsTimeIfAny (option_copied e.accepted)
+  pub sendings : IsBelowIfAny (2 ^ 32) e.sendings
 
 pub record IsReadableLeft (left : Left) : Type 0 where
   pub about : IsReadableRequest left.about
   pub sendings : IsBelowIfAny (2 ^ 32) left.sendings
   pub accepted : IsTimeIfAny (option_copied left.accepted)
   pub request : IsBytes left.request.now
+
+-- The tail that a line gets: its sum, the last of its keys, and its last brace.
+abbrev pub sum_slot : List ℕ → List ℕ × Option Json
+sum_slot sum = (codes "sum", Some (octets_value sum))
+
+abbrev pub sum_text : List ℕ → List ℕ
+sum_text sum = codes ",\"sum\":\"" ++ (encode_lower sum ++ codes "\"}")
+
+-- Octets that a front and a sum are, as they are read: this line, with this sum.
+abbrev pub IsSummedAs : List ℕ → List ℕ → Line → Type 0
+IsSummedAs front sum line = length (front ++ sum_text sum) ≤ 65536 → IsLine (front ++ sum_text sum) (record { line = line; sum = Some sum })

@@ -9,18 +9,18 @@ ghost use Rattle.ledger_lines.specs.Lines.{AreEach, Denies, HasLanes, HasText, I
 ghost use Rattle.json.specs.Json.{array};
 ghost use Rattle.json.specs.Tree.{json_tokens};
 ghost use Rattle.json_objects.specs.Adding.{Adds, AddsSlots};
-ghost use Rattle.json_objects.specs.Written.{HasLineBehind, HasValueBehind, items_of};
+ghost use Rattle.json_objects.specs.Written.{HasBodyBehind, HasFrontBehind, items_of};
 ghost use Rattle.ledger_lines.specs.Written.{begin_value, file_value, start_value};
 
 use crate::faults::LineFault;
 use crate::lane_start::LaneStart;
 use crate::values::{
-    has_only, lanes_at, number_at, push, run_at, serial_at, short_at, sum_at, sum_if_any_at,
+    count_at, has_only, lanes_at, number_at, push, run_at, serial_at, short_at, sum_if_any_at,
     text_at, time_at,
 };
-use crate::writing::{digits, digits_if_any, first_members};
+use crate::writing::{digits_if_any, first_members, number_if_any, widened};
 use json::{Value, Writer};
-use json_objects::{close_line, number, text};
+use json_objects::{close_body, number, text};
 use std::alloc::{AllocError, Global};
 
 /// A file of another run, as the first file of a run names it.
@@ -28,10 +28,8 @@ use std::alloc::{AllocError, Global};
 pub struct FileBefore<'a> {
     /// Its name in the folder.
     pub name: &'a str,
-    /// How many octets it had.
-    pub octets: u64,
-    /// Their SHA-256.
-    pub sha256: [u8; 32],
+    /// The sum of its last whole line, if that has one.
+    pub sum: Option<[u8; 32]>,
 }
 
 /// The first line of a file: it names the run.
@@ -45,17 +43,17 @@ pub struct Begin<'a> {
     pub version: &'a str,
     /// How many files of the run there were before it.
     pub file: u64,
-    /// The chain of the run's lines before it, if the run has one.
-    pub sum: Option<[u8; 32]>,
     /// The file of another run that was written last before this one began, if there was one.
     pub before: Option<FileBefore<'a>>,
     /// The run's lanes.
     pub lanes: Vec<LaneStart<'a>>,
+    /// How many more lanes it named, where these were left out.
+    pub hidden: Option<u32>,
 }
 
 /// The keys of the first line of a file, in the order in which they are written.
-const BEGIN_KEYS: [&str; 8] = [
-    "type", "run", "time", "version", "file", "sum", "before", "lanes",
+const BEGIN_KEYS: [&str; 9] = [
+    "type", "run", "time", "version", "file", "before", "lanes", "hidden", "sum",
 ];
 
 pub(crate) fn begin_of<'a>(alloc: Global, value: &Value<'a>) -> Result<Begin<'a>, LineFault>
@@ -69,17 +67,17 @@ pub(crate) fn begin_of<'a>(alloc: Global, value: &Value<'a>) -> Result<Begin<'a>
     let time = time_at(value, "time")?;
     let version = text_at(value, "version")?;
     let file = number_at(value, "file")?;
-    let sum = sum_if_any_at(value, "sum")?;
     let before = before_at(value)?;
     let lanes = starts_at(alloc, value)?;
+    let hidden = count_at(value, "hidden")?;
     Ok(Begin {
         run,
         time,
         version,
         file,
-        sum,
         before,
         lanes,
+        hidden,
     })
 }
 
@@ -93,21 +91,17 @@ fn before_at<'a>(value: &Value<'a>) -> Result<Option<FileBefore<'a>>, LineFault>
     }
 }
 
+/// The file of another run. An earlier version named it by its octets and their SHA-256, which say nothing of lines.
 #[tactic(auto, using(crate::proofs::Lines::file_parts))]
 fn file_of<'a>(value: &Value<'a>) -> Result<FileBefore<'a>, LineFault>
     ensures { MatchResult result (λ file. IsFileBefore (value_view value.now) file) (λ fault. Denies fault ((file : TheFile) × IsFileBefore (value_view value.now) file)) }
 {
-    if !has_only(value, &["name", "octets", "sha256"]) {
+    if !has_only(value, &["name", "sum", "octets", "sha256"]) {
         return Err(LineFault::NotALine);
     }
     let name = text_at(value, "name")?;
-    let octets = number_at(value, "octets")?;
-    let sha256 = sum_at(value, "sha256")?;
-    Ok(FileBefore {
-        name,
-        octets,
-        sha256,
-    })
+    let sum = sum_if_any_at(value, "sum")?;
+    Ok(FileBefore { name, sum })
 }
 
 #[tactic(auto, using(crate::proofs::Lists::lanes_found, crate::proofs::Lists::no_list_of_lanes, crate::proofs::Lists::no_lanes_in))]
@@ -141,18 +135,18 @@ fn start_of<'a>(value: &Value<'a>) -> Result<LaneStart<'a>, LineFault>
     })
 }
 
-/// Writes a line that names a run, with its line end, behind what these octets are.
+/// Writes a line that names a run, without its last brace, behind what these octets are.
 ///
 /// # Errors
 ///
 /// Where memory is refused.
 pub fn write_begin(alloc: Global, begin: &Begin<'_>, out: Vec<u8>) -> Result<Vec<u8>, AllocError>
-    ensures line { IfOk result (λ all. HasLineBehind out.items all.items) }
-    ensures value { IfOk result (λ all. HasValueBehind out.items all.items (begin_value begin.now)) }
+    ensures body { IfOk result (λ all. HasBodyBehind out.items all.items) }
+    ensures value { IfOk result (λ all. HasFrontBehind out.items all.items (begin_value begin.now)) }
 {
     let mut writer = Writer::new(out);
     begin_members(alloc, &mut writer, begin)?;
-    close_line(writer)
+    Ok(close_body(writer))
 }
 
 fn begin_members(alloc: Global, writer: &mut Writer, begin: &Begin<'_>) -> Result<(), AllocError>
@@ -161,10 +155,10 @@ fn begin_members(alloc: Global, writer: &mut Writer, begin: &Begin<'_>) -> Resul
     first_members(alloc, writer, "begin", begin.run, begin.time)?;
     text(writer, "version", begin.version)?;
     number(writer, "file", begin.file)?;
-    digits_if_any(alloc, writer, "sum", begin.sum)?;
     before_if_any(alloc, writer, begin.before)?;
     writer.key("lanes")?;
     lane_starts(writer, begin.lanes.as_slice())?;
+    number_if_any(writer, "hidden", widened(begin.hidden))?;
     writer.end_object()
 }
 
@@ -187,8 +181,7 @@ fn file_members(alloc: Global, writer: &mut Writer, file: &FileBefore<'_>) -> Re
 {
     writer.begin_object()?;
     text(writer, "name", file.name)?;
-    number(writer, "octets", file.octets)?;
-    digits(alloc, writer, "sha256", &file.sha256)?;
+    digits_if_any(alloc, writer, "sum", file.sum)?;
     writer.end_object()
 }
 

@@ -6,18 +6,18 @@ ghost use Rattle.ledger_lines.specs.Lines.{AreEach, Denies, HasLanes, HasText, I
 ghost use Rattle.json.specs.Json.{array};
 ghost use Rattle.json.specs.Tree.{json_tokens};
 ghost use Rattle.json_objects.specs.Adding.{Adds};
-ghost use Rattle.json_objects.specs.Written.{HasLineBehind, HasValueBehind, items_of};
+ghost use Rattle.json_objects.specs.Written.{HasBodyBehind, HasFrontBehind, items_of};
 ghost use Rattle.ledger_lines.specs.Written.{count_value, end_value};
 ghost use Rattle.ledger_lines.specs.declared.end.End.{End as TheEnd};
 ghost use Rattle.ledger_lines.specs.declared.end.LaneCount.{LaneCount as TheCount};
 
 use crate::faults::LineFault;
 use crate::values::{
-    amount_at, has_only, lanes_at, number_at, push, run_at, short_at, sum_if_any_at, time_at,
+    amount_at, count_at, has_only, lanes_at, number_at, push, run_at, short_at, time_at,
 };
-use crate::writing::{digits_if_any, first_members, number_if_any};
+use crate::writing::{first_members, number_if_any, widened};
 use json::{Value, Writer};
-use json_objects::{close_line, number};
+use json_objects::{close_body, number};
 use std::alloc::{AllocError, Global};
 
 /// A lane, as the end line counts it.
@@ -40,10 +40,10 @@ pub struct End<'a> {
     pub run: u64,
     /// When it ended: RFC 3339, in UTC, with milliseconds.
     pub time: &'a str,
-    /// The chain of the run's lines before it, if the run has one.
-    pub sum: Option<[u8; 32]>,
     /// What was counted of its lanes.
     pub lanes: Vec<LaneCount>,
+    /// How many more lanes it counted, where these were left out.
+    pub hidden: Option<u32>,
 }
 
 #[tactic(auto, using(crate::proofs::Lines::end_parts))]
@@ -51,18 +51,18 @@ pub(crate) fn end_of<'a>(alloc: Global, value: &Value<'a>) -> Result<End<'a>, Li
     requires { HasText (codes "type") (value_view value.now) (codes "end") }
     ensures { MatchResult result (λ end. IsEnd (value_view value.now) end) (λ fault. Denies fault ((end : TheEnd) × IsEnd (value_view value.now) end)) }
 {
-    if !has_only(value, &["type", "run", "time", "sum", "lanes"]) {
+    if !has_only(value, &["type", "run", "time", "lanes", "hidden", "sum"]) {
         return Err(LineFault::NotALine);
     }
     let run = run_at(value)?;
     let time = time_at(value, "time")?;
-    let sum = sum_if_any_at(value, "sum")?;
     let lanes = counts_at(alloc, value)?;
+    let hidden = count_at(value, "hidden")?;
     Ok(End {
         run,
         time,
-        sum,
         lanes,
+        hidden,
     })
 }
 
@@ -105,27 +105,27 @@ fn count_of(value: &Value<'_>) -> Result<LaneCount, LineFault>
     })
 }
 
-/// Writes a line that ends a run, with its line end, behind what these octets are.
+/// Writes a line that ends a run, without its last brace, behind what these octets are.
 ///
 /// # Errors
 ///
 /// Where memory is refused.
 pub fn write_end(alloc: Global, end: &End<'_>, out: Vec<u8>) -> Result<Vec<u8>, AllocError>
-    ensures line { IfOk result (λ all. HasLineBehind out.items all.items) }
-    ensures value { IfOk result (λ all. HasValueBehind out.items all.items (end_value end.now)) }
+    ensures body { IfOk result (λ all. HasBodyBehind out.items all.items) }
+    ensures value { IfOk result (λ all. HasFrontBehind out.items all.items (end_value end.now)) }
 {
     let mut writer = Writer::new(out);
     end_members(alloc, &mut writer, end)?;
-    close_line(writer)
+    Ok(close_body(writer))
 }
 
 fn end_members(alloc: Global, writer: &mut Writer, end: &End<'_>) -> Result<(), AllocError>
     ensures { OnOk result (Adds writer.old writer.new (json_tokens (end_value end.now))) }
 {
     first_members(alloc, writer, "end", end.run, end.time)?;
-    digits_if_any(alloc, writer, "sum", end.sum)?;
     writer.key("lanes")?;
     lane_counts(writer, end.lanes.as_slice())?;
+    number_if_any(writer, "hidden", widened(end.hidden))?;
     writer.end_object()
 }
 

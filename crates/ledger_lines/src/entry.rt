@@ -6,21 +6,21 @@ ghost use Rattle.ledger_rules.specs.declared.entry.Entry.{Entry as TheEntry};
 ghost use Rattle.ledger_lines.specs.Lines.{Denies, HasText, IsEntry};
 ghost use Rattle.json.specs.Tree.{json_tokens};
 ghost use Rattle.json_objects.specs.Adding.{Adds};
-ghost use Rattle.json_objects.specs.Written.{HasLineBehind, HasValueBehind};
+ghost use Rattle.json_objects.specs.Written.{HasBodyBehind, HasFrontBehind};
 ghost use Rattle.ledger_lines.specs.Written.{entry_value};
 
 use crate::about::{about_at, lane_members, request_members};
 use crate::faults::LineFault;
 use crate::reading::Octets;
-use crate::values::{has_only, octets_at, serial_at};
-use crate::writing::digits;
+use crate::values::{count_at, has_only, octets_at, serial_at, time_if_any_at};
+use crate::writing::{digits, number_if_any, text_if_any, widened};
 use json::{Value, Writer};
-use json_objects::{close_line, number};
+use json_objects::{close_body, number};
 use ledger_rules::Entry;
 use std::alloc::{AllocError, Global};
 
 /// The keys of an entry, in the order in which they are written.
-const ENTRY_KEYS: [&str; 21] = [
+const ENTRY_KEYS: [&str; 24] = [
     "type",
     "run",
     "time",
@@ -42,6 +42,9 @@ const ENTRY_KEYS: [&str; 21] = [
     "sent",
     "reply",
     "response",
+    "accepted",
+    "sendings",
+    "sum",
 ];
 
 pub(crate) fn entry_of<'a>(value: &Value<'a>, room: &'a mut Octets) -> Result<Entry<'a>, LineFault>
@@ -63,27 +66,31 @@ pub(crate) fn entry_of<'a>(value: &Value<'a>, room: &'a mut Octets) -> Result<En
     let sent = octets_at(value, "sent", sent)?;
     let reply = octets_at(value, "reply", reply)?;
     let response = octets_at(value, "response", response)?;
+    let accepted = time_if_any_at(value, "accepted")?;
+    let sendings = count_at(value, "sendings")?;
     Ok(Entry {
         about,
         serial,
         sent,
         reply,
         response,
+        accepted,
+        sendings,
     })
 }
 
-/// Writes an entry, with its line end, behind what these octets are.
+/// Writes an entry, without its last brace, behind what these octets are.
 ///
 /// # Errors
 ///
 /// Where memory is refused.
 pub fn write_entry(alloc: Global, entry: &Entry<'_>, out: Vec<u8>) -> Result<Vec<u8>, AllocError>
-    ensures line { IfOk result (λ all. HasLineBehind out.items all.items) }
-    ensures value { IfOk result (λ all. HasValueBehind out.items all.items (entry_value entry.now)) }
+    ensures body { IfOk result (λ all. HasBodyBehind out.items all.items) }
+    ensures value { IfOk result (λ all. HasFrontBehind out.items all.items (entry_value entry.now)) }
 {
     let mut writer = Writer::new(out);
     entry_members(alloc, &mut writer, entry)?;
-    close_line(writer)
+    Ok(close_body(writer))
 }
 
 fn entry_members(alloc: Global, writer: &mut Writer, entry: &Entry<'_>) -> Result<(), AllocError>
@@ -95,5 +102,7 @@ fn entry_members(alloc: Global, writer: &mut Writer, entry: &Entry<'_>) -> Resul
     digits(alloc, writer, "sent", entry.sent)?;
     digits(alloc, writer, "reply", entry.reply)?;
     digits(alloc, writer, "response", entry.response)?;
+    text_if_any(writer, "accepted", entry.accepted)?;
+    number_if_any(writer, "sendings", widened(entry.sendings))?;
     writer.end_object()
 }

@@ -1,33 +1,29 @@
 //! Theorems about the definitions. Each function has an empty body; its contract states the theorem.
 
-ghost use Rattle.std.specs.Prelude.{◌≤◌, ℕ, List, Result, length};
+ghost use Rattle.std.specs.Prelude.{ℕ, List, Result};
 ghost use Rattle.json.specs.Json.{Json as TheJson};
 ghost use Rattle.ledger_rules.specs.declared.entry.Entry.{Entry as TheEntry};
 ghost use Rattle.ledger_rules.specs.declared.left.Left.{Left as TheLeft};
-ghost use Rattle.json_objects.specs.Written.{IsValue};
-ghost use Rattle.ledger_lines.specs.Lines.{IsBegin, IsEnd, IsEntry, IsLeft, IsLine, IsLineOf};
-ghost use Rattle.ledger_lines.specs.Same.{GivesBack, IsAnswer, IsSameLine};
-ghost use Rattle.ledger_lines.specs.Written.{IsReadableBegin, IsReadableEnd, IsReadableEntry, IsReadableLeft, begin_value, end_value, entry_value, left_value};
+ghost use Rattle.ledger_lines.specs.Lines.{IsLine, IsLineOf};
+ghost use Rattle.ledger_lines.specs.Same.{GivesBack, IsAnswer, IsSameLine, IsSameSummed};
+ghost use Rattle.ledger_lines.specs.Written.{HasFrontBehind, IsReadableBegin, IsReadableEnd, IsReadableEntry, IsReadableLeft, IsSum, IsSummedAs, begin_value, end_value, entry_value, left_value};
 ghost use Rattle.ledger_lines.specs.declared.begin.Begin.{Begin as TheBegin};
 ghost use Rattle.ledger_lines.specs.declared.end.End.{End as TheEnd};
 ghost use Rattle.ledger_lines.specs.declared.faults.LineFault.{LineFault as TheFault};
 ghost use Rattle.ledger_lines.specs.declared.reading.Line.{Line as TheLine};
+ghost use Rattle.ledger_lines.specs.declared.reading.SummedLine.{SummedLine as TheSummedLine};
 ghost use Rattle.ledger_lines.specs.declared.reading.Line.TheVariants.{Begin as begins, Entry as enters, Left as leaves, End as ends};
 
-/// The value of a line that is written is what a reader takes for what it was written of.
+/// What is written of a line, with a sum behind it, is read as this line with this sum, if there are no more than 65,536 octets.
 ///
-/// Octets that are this value are this line, if there are no more than 65,536. A value is one line at most, and so are octets: two lines
-/// that they are have one kind, and the same in each field. So what `read_line` answers of a line is this line, unless memory was refused.
+/// A value is one line at most, and so are octets: two lines that they are have one kind, and the same in each field. So what `read_line`
+/// answers of such a line is this line, with this sum, unless memory was refused.
 pub fn written_lines_are_read()
-    ensures begin { (begin : TheBegin) → IsReadableBegin begin → IsBegin (begin_value begin) begin }
-    ensures entry { (e : TheEntry) → IsReadableEntry e → IsEntry (entry_value e) e }
-    ensures left { (left : TheLeft) → IsReadableLeft left → IsLeft (left_value left) left }
-    ensures end { (end : TheEnd) → IsReadableEnd end → IsEnd (end_value end) end }
-    ensures begin_line { (octets : List ℕ) → length octets ≤ 65536 → (begin : TheBegin) → IsReadableBegin begin → IsValue octets (begin_value begin) → IsLine octets (begins begin) }
-    ensures entry_line { (octets : List ℕ) → length octets ≤ 65536 → (e : TheEntry) → IsReadableEntry e → IsValue octets (entry_value e) → IsLine octets (enters e) }
-    ensures left_line { (octets : List ℕ) → length octets ≤ 65536 → (left : TheLeft) → IsReadableLeft left → IsValue octets (left_value left) → IsLine octets (leaves left) }
-    ensures end_line { (octets : List ℕ) → length octets ≤ 65536 → (end : TheEnd) → IsReadableEnd end → IsValue octets (end_value end) → IsLine octets (ends end) }
+    ensures begin { (before all sum : List ℕ) (begin : TheBegin) (written : HasFrontBehind before all (begin_value begin)) → IsReadableBegin begin → IsSum sum → IsSummedAs written.front sum (begins begin) }
+    ensures entry { (before all sum : List ℕ) (e : TheEntry) (written : HasFrontBehind before all (entry_value e)) → IsReadableEntry e → IsSum sum → IsSummedAs written.front sum (enters e) }
+    ensures left { (before all sum : List ℕ) (left : TheLeft) (written : HasFrontBehind before all (left_value left)) → IsReadableLeft left → IsSum sum → IsSummedAs written.front sum (leaves left) }
+    ensures end { (before all sum : List ℕ) (end : TheEnd) (written : HasFrontBehind before all (end_value end)) → IsReadableEnd end → IsSum sum → IsSummedAs written.front sum (ends end) }
     ensures one_of_value { (value : TheJson) (one another : TheLine) → IsLineOf value one → IsLineOf value another → IsSameLine one another }
-    ensures one_of_octets { (octets : List ℕ) (one another : TheLine) → IsLine octets one → IsLine octets another → IsSameLine one another }
-    ensures given_back { (octets : List ℕ) (line : TheLine) (answer : Result TheLine TheFault) → IsLine octets line → IsAnswer octets answer → GivesBack answer line }
+    ensures one_of_octets { (octets : List ℕ) (one another : TheSummedLine) → IsLine octets one → IsLine octets another → IsSameSummed one another }
+    ensures given_back { (octets : List ℕ) (line : TheSummedLine) (answer : Result TheSummedLine TheFault) → IsLine octets line → IsAnswer octets answer → GivesBack answer line }
 {}

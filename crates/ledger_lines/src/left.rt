@@ -6,7 +6,7 @@ ghost use Rattle.ledger_rules.specs.declared.left.Left.{Left as TheLeft};
 ghost use Rattle.ledger_lines.specs.Lines.{Denies, HasText, IsLeft, state_text as the_state_text, HasState};
 ghost use Rattle.json.specs.Tree.{json_tokens};
 ghost use Rattle.json_objects.specs.Adding.{Adds};
-ghost use Rattle.json_objects.specs.Written.{HasLineBehind, HasValueBehind};
+ghost use Rattle.json_objects.specs.Written.{HasBodyBehind, HasFrontBehind};
 ghost use Rattle.ledger_lines.specs.Written.{left_value};
 ghost use Rattle.rad_lane.specs.declared.leftover.LeftState.{LeftState as TheState};
 
@@ -16,12 +16,12 @@ use crate::reading::Octets;
 use crate::values::{count_at, has_only, octets_at, text_at, time_if_any_at};
 use crate::writing::{digits, number_if_any, text_if_any, widened};
 use json::{Value, Writer};
-use json_objects::{close_line, text};
+use json_objects::{close_body, text};
 use ledger_rules::{Left, LeftState};
 use std::alloc::{AllocError, Global};
 
 /// The keys of a request that was left, in the order in which they are written.
-const LEFT_KEYS: [&str; 21] = [
+const LEFT_KEYS: [&str; 22] = [
     "type",
     "run",
     "time",
@@ -43,6 +43,7 @@ const LEFT_KEYS: [&str; 21] = [
     "sendings",
     "accepted",
     "request",
+    "sum",
 ];
 
 pub(crate) fn left_of<'a>(value: &Value<'a>, room: &'a mut Octets) -> Result<Left<'a>, LineFault>
@@ -79,18 +80,18 @@ pub(crate) fn state_at(value: &Value<'_>) -> Result<LeftState, LineFault>
     }
 }
 
-/// Writes a request that was left, with its line end, behind what these octets are.
+/// Writes a request that was left, without its last brace, behind what these octets are.
 ///
 /// # Errors
 ///
 /// Where memory is refused.
 pub fn write_left(alloc: Global, left: &Left<'_>, out: Vec<u8>) -> Result<Vec<u8>, AllocError>
-    ensures line { IfOk result (λ all. HasLineBehind out.items all.items) }
-    ensures value { IfOk result (λ all. HasValueBehind out.items all.items (left_value left.now)) }
+    ensures body { IfOk result (λ all. HasBodyBehind out.items all.items) }
+    ensures value { IfOk result (λ all. HasFrontBehind out.items all.items (left_value left.now)) }
 {
     let mut writer = Writer::new(out);
     left_members(alloc, &mut writer, left)?;
-    close_line(writer)
+    Ok(close_body(writer))
 }
 
 fn left_members(alloc: Global, writer: &mut Writer, left: &Left<'_>) -> Result<(), AllocError>

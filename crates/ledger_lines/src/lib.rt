@@ -1,8 +1,8 @@
 //! The lines of a ledger: a line for each response that the front took, a line for each request that was left, lines that name a
-//! run and end one, and lines that stand for others that are left out.
+//! run and end one, lines that count what became of a response, and lines that stand for others that are left out.
 //!
-//! [`read_line`] reads a line, and [`write_begin`], [`write_entry`], [`write_left`] and [`write_end`] write one. `specs/Lines.antt` says
-//! which octets are a line, and `specs/Written.antt` what is written.
+//! [`read_line`] reads a line, and [`write_begin`], [`write_entry`], [`write_left`] and [`write_end`] write one without its last brace:
+//! its sum comes behind that. `specs/Lines.antt` says which octets are a line, and `specs/Written.antt` what is written.
 #![tactic(auto)]
 
 mod about;
@@ -17,6 +17,7 @@ mod laws;
 mod left;
 mod moments;
 mod reading;
+mod record_count;
 mod values;
 mod writing;
 
@@ -24,9 +25,9 @@ pub use begin::{Begin, FileBefore, write_begin};
 pub use end::{End, LaneCount, write_end};
 pub use entry::write_entry;
 pub use faults::LineFault;
-pub use hidden::Hidden;
+pub use hidden::{Hidden, HiddenKind};
 pub use lane_start::LaneStart;
 pub use laws::written_lines_are_read;
 pub use left::write_left;
 pub use moments::moment_of;
-pub use reading::{Line, MOST_LINE_OCTETS, Room, read_line};
+pub use reading::{Line, MOST_LINE_OCTETS, Room, SummedLine, read_line};

@@ -3,6 +3,7 @@
 ghost use Rattle.std.specs.Prelude.{MatchResult};
 ghost use Rattle.json.specs.Value.{value_view};
 ghost use Rattle.ledger_lines.specs.declared.reading.Line.{Line as TheLine};
+ghost use Rattle.ledger_lines.specs.declared.reading.SummedLine.{SummedLine as TheSummedLine};
 ghost use Rattle.ledger_lines.specs.Lines.{Denies, IsLine, IsLineOf};
 
 use crate::begin::{Begin, begin_of};
@@ -11,9 +12,10 @@ use crate::entry::entry_of;
 use crate::faults::LineFault;
 use crate::hidden::{Hidden, hidden_of};
 use crate::left::left_of;
-use crate::values::{read_value, text_at};
+use crate::record_count::record_count_of;
+use crate::values::{read_value, sum_if_any_at, text_at};
 use json::{Scratch, Value};
-use ledger_rules::{Entry, Left};
+use ledger_rules::{Entry, Left, RecordCount};
 use std::alloc::{AllocError, Global};
 
 /// The most octets of a line.
@@ -26,10 +28,21 @@ pub enum Line<'a> {
     Begin(Begin<'a>),
     Entry(Entry<'a>),
     Left(Left<'a>),
+    /// It counts how often a response could not be sent.
+    Unsent(RecordCount<'a>),
+    /// It counts how often a response was sent again.
+    Again(RecordCount<'a>),
     /// It ends a run.
     End(End<'a>),
     /// It stands for a line that is left out.
     Hidden(Hidden),
+}
+
+/// A line, with the sum that it has, if it has one.
+#[derive(Drop)]
+pub struct SummedLine<'a> {
+    pub line: Line<'a>,
+    pub sum: Option<[u8; 32]>,
 }
 
 /// What a line is read with: it is used again for each line.
@@ -82,18 +95,18 @@ impl Room {
     }
 }
 
-/// Reads a line, without its line end: an object of the keys of its kind, each once and in any order.
+/// Reads a line, without its line end: an object of the keys of its kind, each once and in any order. Each kind may have a sum.
 ///
 /// # Errors
 ///
 /// `NotALine` where it is none, `OutOfMemory` where memory was refused.
-#[tactic(auto, using(crate::proofs::Types::too_long, crate::proofs::Types::no_value_no_line, crate::proofs::Types::no_line, crate::proofs::Types::is_line))]
+#[tactic(auto, using(crate::proofs::Types::too_long, crate::proofs::Types::no_value_no_line, crate::proofs::Types::no_line, crate::proofs::Types::no_sum_no_line, crate::proofs::Types::is_line))]
 pub fn read_line<'a>(
     alloc: Global,
     octets: &'a [u8],
     room: &'a mut Room,
-) -> Result<Line<'a>, LineFault>
-    ensures { MatchResult result (λ line. IsLine octets.now line) (λ fault. Denies fault ((line : TheLine) × IsLine octets.now line)) }
+) -> Result<SummedLine<'a>, LineFault>
+    ensures { MatchResult result (λ line. IsLine octets.now line) (λ fault. Denies fault ((line : TheSummedLine) × IsLine octets.now line)) }
 {
     if octets.len() > MOST_LINE_OCTETS {
         return Err(LineFault::NotALine);
@@ -103,7 +116,9 @@ pub fn read_line<'a>(
         octets: digits,
     } = room;
     let value = read_value(alloc, octets, scratch)?;
-    line_of(alloc, &value, digits)
+    let sum = sum_if_any_at(&value, "sum")?;
+    let line = line_of(alloc, &value, digits)?;
+    Ok(SummedLine { line, sum })
 }
 
 fn line_of<'a>(
@@ -118,6 +133,8 @@ fn line_of<'a>(
         "left" => Ok(Line::Left(left_of(value, room)?)),
         "begin" => Ok(Line::Begin(begin_of(alloc, value)?)),
         "end" => Ok(Line::End(end_of(alloc, value)?)),
+        "unsent" => Ok(Line::Unsent(record_count_of(value, "unsent")?)),
+        "again" => Ok(Line::Again(record_count_of(value, "again")?)),
         "hidden" => Ok(Line::Hidden(hidden_of(value)?)),
         _ => Err(LineFault::NotALine),
     }

@@ -309,6 +309,16 @@ pub(crate) fn count_at(value: &Value<'_>, key: &str) -> Result<Option<u32>, Line
     }
 }
 
+#[tactic(auto, using(crate::proofs::Parts::count_none, crate::proofs::Few::no_short_if_any))]
+pub(crate) fn short_if_any_at(value: &Value<'_>, key: &str) -> Result<Option<u16>, LineFault>
+    ensures { MatchResult result (λ its. MayHaveNumber key.now (2 ^ 16) (value_view value.now) its) (λ fault. Denies fault ((its : Option ℕ) × MayHaveNumber key.now (2 ^ 16) (value_view value.now) its)) }
+{
+    if value.get(key).is_none() {
+        return Ok(None);
+    }
+    Ok(Some(short_at(value, key)?))
+}
+
 #[tactic(auto, using(crate::proofs::Parts::count_none, crate::proofs::Parts::no_amount))]
 pub(crate) fn amount_at(value: &Value<'_>, key: &str) -> Result<Option<u64>, LineFault>
     ensures { MatchResult result (λ its. MayHaveNumber key.now (2 ^ 64) (value_view value.now) its) (λ fault. Denies fault ((its : Option ℕ) × MayHaveNumber key.now (2 ^ 64) (value_view value.now) its)) }

@@ -7,7 +7,7 @@ use Rattle.rad_auth.specs.declared.mark.Mark.{Mark}
 use Rattle.rad_auth.specs.declared.reply.RequestHead.{RequestHead}
 use Rattle.ledger_rules.specs.declared.entry.Entry.{Entry}
 use Rattle.ledger_rules.specs.declared.reason.Reason.{Reason}
-use Rattle.ledger_rules.specs.declared.reason.Reason.TheVariants.{NotEntry, NoPacket, WrongSent, WrongRequest, WrongReply, WrongResponse, SerialNotAbove, UnknownLane, RecordTwice, WrongWords, WrongSum}
+use Rattle.ledger_rules.specs.declared.reason.Reason.TheVariants.{NotEntry, NoPacket, WrongSent, WrongRequest, WrongReply, WrongResponse, SerialNotAbove, UnknownLane, RecordTwice, UnknownRecord, WrongWords, FileAgain, OtherLanes, WrongSum}
 
 module _ (e : Entry) where
   pub sent_is_none : ¬ IsPacketText e.sent.now → ¬ ArePackets e
@@ -58,7 +58,10 @@ module _ (e : Entry) where
     by_reason (Some SerialNotAbove) j = j
     by_reason (Some UnknownLane) j = j
     by_reason (Some RecordTwice) j = j
+    by_reason (Some UnknownRecord) j = j
     by_reason (Some WrongWords) j = j
+    by_reason (Some FileAgain) j = j
+    by_reason (Some OtherLanes) j = j
     by_reason (Some WrongSum) j = j
 
     -- what is told of the reply and the response is told of the packets
@@ -85,5 +88,8 @@ module _ (e : Entry) where
     packets_first SerialNotAbove w = absurd w
     packets_first UnknownLane w = absurd w
     packets_first RecordTwice w = absurd w
+    packets_first UnknownRecord w = w
     packets_first WrongWords w = w
+    packets_first FileAgain w = w
+    packets_first OtherLanes w = w
     packets_first WrongSum w = w

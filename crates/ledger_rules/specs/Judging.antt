@@ -9,7 +9,7 @@ use Rattle.rad_auth.specs.declared.mark.Mark.{Mark}
 use Rattle.rad_auth.specs.declared.reply.RequestHead.{RequestHead}
 use Rattle.ledger_rules.specs.declared.entry.Entry.{Entry}
 use Rattle.ledger_rules.specs.declared.reason.Reason.{Reason}
-use Rattle.ledger_rules.specs.declared.reason.Reason.TheVariants.{NotEntry, NoPacket, WrongSent, WrongRequest, WrongReply, WrongResponse, SerialNotAbove, UnknownLane, RecordTwice, WrongWords, WrongSum}
+use Rattle.ledger_rules.specs.declared.reason.Reason.TheVariants.{NotEntry, NoPacket, WrongSent, WrongRequest, WrongReply, WrongResponse, SerialNotAbove, UnknownLane, RecordTwice, UnknownRecord, WrongWords, FileAgain, OtherLanes, WrongSum}
 
 -- The head of the request, and the mark that it went out with.
 abbrev pub head_of : Entry → RequestHead
@@ -86,7 +86,10 @@ IsWrongPacket e home client WrongResponse =
 IsWrongPacket e home client SerialNotAbove = ⊥
 IsWrongPacket e home client UnknownLane = ⊥
 IsWrongPacket e home client RecordTwice = ⊥
+IsWrongPacket e home client UnknownRecord = ⊥
 IsWrongPacket e home client WrongWords = ⊥
+IsWrongPacket e home client FileAgain = ⊥
+IsWrongPacket e home client OtherLanes = ⊥
 IsWrongPacket e home client WrongSum = ⊥
 
 -- Of a lane whose next serial is at least this one, where the run names the lane.
@@ -104,7 +107,10 @@ IsWrong e home client next Twice WrongResponse = IsWrongPacket e home client Wro
 IsWrong e home client next Twice SerialNotAbove = ArePacketsRight e home client × MatchOption next ⊥ (λ least. e.serial < least)
 IsWrong e home client next Twice UnknownLane = ArePacketsRight e home client × (next ≡ None)
 IsWrong e home client next Twice RecordTwice = ArePacketsRight e home client × IsInPlace e.serial next × Twice
+IsWrong e home client next Twice UnknownRecord = ⊥
 IsWrong e home client next Twice WrongWords = ⊥
+IsWrong e home client next Twice FileAgain = ⊥
+IsWrong e home client next Twice OtherLanes = ⊥
 IsWrong e home client next Twice WrongSum = ⊥
 
 -- What is wrong first with a reply to what was sent or with a response to the request of this head, where nothing is wrong with what
@@ -122,5 +128,8 @@ JudgesReply home client head sent reply response (Some WrongResponse) =
 JudgesReply home client head sent reply response (Some SerialNotAbove) = ⊥
 JudgesReply home client head sent reply response (Some UnknownLane) = ⊥
 JudgesReply home client head sent reply response (Some RecordTwice) = ⊥
+JudgesReply home client head sent reply response (Some UnknownRecord) = ⊥
 JudgesReply home client head sent reply response (Some WrongWords) = ⊥
+JudgesReply home client head sent reply response (Some FileAgain) = ⊥
+JudgesReply home client head sent reply response (Some OtherLanes) = ⊥
 JudgesReply home client head sent reply response (Some WrongSum) = ⊥

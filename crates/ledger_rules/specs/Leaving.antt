@@ -4,7 +4,7 @@ use Rattle.rad_packet.specs.Packet.{IsPacketText, authenticator_of, code_of, ide
 use Rattle.rad_auth.specs.Authenticator.{IsRightRequest}
 use Rattle.ledger_rules.specs.declared.left.Left.{Left}
 use Rattle.ledger_rules.specs.declared.reason.Reason.{Reason}
-use Rattle.ledger_rules.specs.declared.reason.Reason.TheVariants.{NotEntry, NoPacket, WrongSent, WrongRequest, WrongReply, WrongResponse, SerialNotAbove, UnknownLane, RecordTwice, WrongWords, WrongSum}
+use Rattle.ledger_rules.specs.declared.reason.Reason.TheVariants.{NotEntry, NoPacket, WrongSent, WrongRequest, WrongReply, WrongResponse, SerialNotAbove, UnknownLane, RecordTwice, UnknownRecord, WrongWords, FileAgain, OtherLanes, WrongSum}
 
 -- Its packet is an Accounting-Request with this Identifier and this Authenticator, and right under the client's secret where that is
 -- known. It is the request itself, so what is wrong with it is WrongSent, and never WrongRequest.
@@ -31,5 +31,8 @@ IsWronglyLeft left client Named Twice WrongResponse = ⊥
 IsWronglyLeft left client Named Twice SerialNotAbove = ⊥
 IsWronglyLeft left client Named Twice UnknownLane = IsPacketText left.request.now × HasRequest left client × ¬ Named
 IsWronglyLeft left client Named Twice RecordTwice = IsPacketText left.request.now × HasRequest left client × Named × Twice
+IsWronglyLeft left client Named Twice UnknownRecord = ⊥
 IsWronglyLeft left client Named Twice WrongWords = ⊥
+IsWronglyLeft left client Named Twice FileAgain = ⊥
+IsWronglyLeft left client Named Twice OtherLanes = ⊥
 IsWronglyLeft left client Named Twice WrongSum = ⊥

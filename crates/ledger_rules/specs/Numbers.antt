@@ -8,6 +8,10 @@ use Rattle.ledger_rules.specs.declared.numbers.Numbers.{Numbers}
 abbrev pub IsKnown : Numbers → ℕ → Type 0
 IsKnown numbers n = (numbers.exact_from ≤ n) × IsTrue (is_in numbers.edges.items n)
 
+-- It is known that it is not.
+abbrev pub IsKnownAbsent : Numbers → ℕ → Type 0
+IsKnownAbsent numbers n = (numbers.exact_from ≤ n) × ¬ IsTrue (is_in numbers.edges.items n)
+
 -- What a set shows of the numbers that were put into it, in this order. From a number on, exactly these are in it; if that is 0, each of
 -- them was put in once.
 pub record Keeps (numbers : Numbers) (all : List ℕ) : Type 0 where

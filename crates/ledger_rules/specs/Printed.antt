@@ -2,7 +2,7 @@
 use Rattle.std.specs.Prelude.{ℕ, List, ◌++◌, codes}
 use Rattle.std.specs.Fmt.{decimal}
 use Rattle.ledger_rules.specs.declared.reason.Reason.{Reason}
-use Rattle.ledger_rules.specs.declared.reason.Reason.TheVariants.{NotEntry, NoPacket, WrongSent, WrongRequest, WrongReply, WrongResponse, SerialNotAbove, UnknownLane, RecordTwice, WrongWords, WrongSum}
+use Rattle.ledger_rules.specs.declared.reason.Reason.TheVariants.{NotEntry, NoPacket, WrongSent, WrongRequest, WrongReply, WrongResponse, SerialNotAbove, UnknownLane, RecordTwice, UnknownRecord, WrongWords, FileAgain, OtherLanes, WrongSum}
 use Rattle.ledger_rules.specs.declared.tally.Gap.{Gap}
 use Rattle.ledger_rules.specs.declared.tally.Verdict.{Verdict}
 use Rattle.ledger_rules.specs.declared.tally.Verdict.TheVariants.{Whole, Open, Missing, Unaccounted, Part, Contradicted}
@@ -17,7 +17,10 @@ reason_text WrongResponse = codes "WrongResponse"
 reason_text SerialNotAbove = codes "SerialNotAbove"
 reason_text UnknownLane = codes "UnknownLane"
 reason_text RecordTwice = codes "RecordTwice"
+reason_text UnknownRecord = codes "UnknownRecord"
 reason_text WrongWords = codes "WrongWords"
+reason_text FileAgain = codes "FileAgain"
+reason_text OtherLanes = codes "OtherLanes"
 reason_text WrongSum = codes "WrongSum"
 
 abbrev pub gap_text : Gap → List ℕ

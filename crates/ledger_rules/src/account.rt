@@ -32,7 +32,7 @@ pub struct Account {
 
 impl Account {
     ghost use Rattle.std.specs.Prelude.{◌≡◌, ◌↔◌, ◌+◌, ◌^◌, ◌-◌, ◌++◌, [], ◌∷◌, ℕ, List, None, min, IsTrue, IfOk, OnErr, MatchBool};
-    ghost use Rattle.ledger_rules.specs.Numbers.{IsAsBefore, IsEachOnce, IsKnown, Keeps};
+    ghost use Rattle.ledger_rules.specs.Numbers.{IsAsBefore, IsEachOnce, IsKnown, IsKnownAbsent, Keeps};
     ghost use Rattle.ledger_rules.specs.Accounting.{IsSettled};
 
     /// Returns the account of a lane without lines.
@@ -52,6 +52,13 @@ impl Account {
         ensures { IsTrue result ↔ IsKnown self.now.numbers number }
     {
         self.numbers.has(number)
+    }
+
+    /// Whether it is known that no line has this number.
+    pub fn lacks(&self, number: u64) -> bool
+        ensures { IsTrue result ↔ IsKnownAbsent self.now.numbers number }
+    {
+        self.numbers.lacks(number)
     }
 
     /// Whether it is known of each number whether a line has it.

@@ -14,4 +14,8 @@ pub struct Entry<'a> {
     pub reply: &'a [u8],
     /// The packet that went to the client.
     pub response: &'a [u8],
+    /// When the request was accepted, if that is known: RFC 3339, in UTC, with milliseconds.
+    pub accepted: Option<&'a str>,
+    /// How often it was sent to the home server, if that is known.
+    pub sendings: Option<u32>,
 }

@@ -17,6 +17,7 @@ mod line_request;
 mod numbers;
 mod packets;
 mod reason;
+mod record_count;
 mod tally;
 
 pub use account::{Account, Fates, lane_verdict};
@@ -30,4 +31,5 @@ pub use numbers::{MOST_RANGES, Numbers};
 pub use packets::{ends_with_mark, whole_packet};
 pub use rad_lane::LeftState;
 pub use reason::Reason;
+pub use record_count::RecordCount;
 pub use tally::{Gap, Tally, Verdict};

@@ -23,7 +23,7 @@ pub struct Numbers {
 
 impl Numbers {
     ghost use Rattle.std.specs.Prelude.{◌≡◌, ◌↔◌, ◌≤◌, ◌+◌, ◌++◌, [], ◌∷◌, ℕ, List, length, IsTrue, IfOk, OnOk, OnErr, MatchBool};
-    ghost use Rattle.ledger_rules.specs.Numbers.{IsAsBefore, IsEachOnce, IsKnown, Keeps};
+    ghost use Rattle.ledger_rules.specs.Numbers.{IsAsBefore, IsEachOnce, IsKnown, IsKnownAbsent, Keeps};
 
     /// Returns the set that is empty.
     pub fn new(alloc: Global) -> Numbers
@@ -41,6 +41,13 @@ impl Numbers {
         ensures { IsTrue result ↔ IsKnown self.now number }
     {
         self.exact_from <= number && is_within(self.edges.as_slice(), number)
+    }
+
+    /// Whether it is known that a number is not in the set.
+    pub fn lacks(&self, number: u64) -> bool
+        ensures { IsTrue result ↔ IsKnownAbsent self.now number }
+    {
+        self.exact_from <= number && !is_within(self.edges.as_slice(), number)
     }
 
     /// Whether no ranges were merged, so that it is known of each number whether it is in the set.

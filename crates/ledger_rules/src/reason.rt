@@ -25,9 +25,15 @@ pub enum Reason {
     UnknownLane,
     /// Another line of the lane has its number.
     RecordTwice,
+    /// It tells of a record that has no line of the lane before it.
+    UnknownRecord,
     /// Its words are not those of the request.
     WrongWords,
-    /// The sum that it has is not that of the lines before it.
+    /// The file was read before, or comes too late.
+    FileAgain,
+    /// Its lanes are not those of the run, or a serial is below that of the lane's next response.
+    OtherLanes,
+    /// Its sum is not that of the line before it and of its own octets.
     WrongSum,
 }
 
@@ -48,7 +54,10 @@ impl fmt::Display for Reason {
             Reason::SerialNotAbove => f.write_str("SerialNotAbove"),
             Reason::UnknownLane => f.write_str("UnknownLane"),
             Reason::RecordTwice => f.write_str("RecordTwice"),
+            Reason::UnknownRecord => f.write_str("UnknownRecord"),
             Reason::WrongWords => f.write_str("WrongWords"),
+            Reason::FileAgain => f.write_str("FileAgain"),
+            Reason::OtherLanes => f.write_str("OtherLanes"),
             Reason::WrongSum => f.write_str("WrongSum"),
         }
     }

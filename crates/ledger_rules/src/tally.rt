@@ -65,7 +65,7 @@ pub struct Tally {
 }
 
 impl Tally {
-    ghost use Rattle.std.specs.Prelude.{◌≡◌, ◌↔◌, ◌≤◌, ◌<◌, ◌^◌, ◌++◌, [], ◌∷◌, ℕ, List, Some, None, IsTrue, OnOk, IfOk, IfErr};
+    ghost use Rattle.std.specs.Prelude.{◌≡◌, ◌↔◌, ◌≤◌, ◌<◌, ◌^◌, ◌-◌, ◌++◌, [], ◌∷◌, ℕ, List, Some, None, IsTrue, OnOk, IfOk, IfErr, max, unwrap_or};
     ghost use Rattle.rad_lane.specs.declared.outgoing.Outgoing.{Outgoing};
     ghost use Rattle.ledger_rules.specs.declared.reason.Reason.TheVariants.{SerialNotAbove};
     ghost use Rattle.ledger_rules.specs.declared.tally.Verdict.TheVariants.{Open, Whole};
@@ -117,6 +117,14 @@ impl Tally {
         ensures { result ≡ self.now.entries }
     {
         self.entries
+    }
+
+    /// Returns how many serials are missing, as far as it is known how many there are.
+    pub fn missing(&self) -> u64
+        ensures { result ≡ max self.now.next (unwrap_or self.now.end 0) - self.now.first - self.now.entries }
+    {
+        let end = self.next.max(self.end.unwrap_or(0));
+        end.saturating_sub(self.first).saturating_sub(self.entries)
     }
 
     /// Counts an entry with this serial, and returns the gap before it, if there is one.

@@ -26,6 +26,7 @@ abbrev pub ledger_line : LedgerLine → Option (List ℕ)
 ledger_line (line.Fault fault) = fault_line (fault_text fault)
 ledger_line line.Back = Some (codes "event=ledger-back")
 ledger_line (line.File its) = Some (codes "event=ledger-file " ++ sum_text its)
+ledger_line (line.Untied file) = Some (codes "event=ledger-untied file=\"" ++ file.now ++ codes "\"")
 ledger_line (line.Dropped count) = Some (codes "event=ledger-dropped count=" ++ decimal count)
 ledger_line (line.Lost lane count from to) =
     Some (codes "event=ledger-lost lane=" ++ decimal lane ++ codes " count=" ++ decimal count ++ codes " from=" ++ decimal from ++ codes " to=" ++ decimal to)

@@ -1,5 +1,6 @@
 //! What is told of a lane: which entries are handed over to the ledger, written and lost, and which requests are left.
 
+use crate::handlings::Handlings;
 use std::alloc::{AllocError, Global};
 use std::sync::atomic::{AtomicU64, Ordering};
 
@@ -31,17 +32,19 @@ pub(crate) struct LaneState {
     left: AtomicU64,
     /// One more than how many requests the lane accepted, once all that is left of it was told; 0 before.
     accepted: AtomicU64,
+    pub(crate) handlings: Handlings,
 }
 
 impl LaneState {
-    /// Makes it for each of so many lanes, none of whose entries is lost.
+    /// Makes it for lanes, none of whose entries is lost, each with so many places for how requests are handled.
     ///
     /// # Errors
     ///
     /// `AllocError` if memory is refused.
-    pub(crate) fn of_lanes(alloc: Global, lanes: usize) -> Result<Vec<LaneState>, AllocError> {
-        let mut all = Vec::with_capacity(alloc, lanes)?;
-        for _ in 0..lanes {
+    pub(crate) fn of_lanes(alloc: Global, places: &[usize]) -> Result<Vec<LaneState>, AllocError> {
+        let mut all = Vec::with_capacity(alloc, places.len())?;
+        for places in places {
+            let handlings = Handlings::new(alloc, *places)?;
             all.push(LaneState {
                 handed: AtomicU64::new(0),
                 written: AtomicU64::new(0),
@@ -50,6 +53,7 @@ impl LaneState {
                 to: AtomicU64::new(0),
                 left: AtomicU64::new(0),
                 accepted: AtomicU64::new(0),
+                handlings,
             })?;
         }
         Ok(all)

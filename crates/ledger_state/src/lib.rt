@@ -3,17 +3,20 @@
 //! lost, and the sums of the run's files.
 //!
 //! Contracts say how each log line is printed, and which number stands for a fault. The definitions are in `specs`:
-//! `Faults` has the reasons for which the ledger is not written, and `LogLines` the lines. No contract covers what is in an
+//! `Faults` has the reasons for which the ledger is not written, `Handlings` the words that tell how requests were handled, and
+//! `LogLines` the lines. No contract covers what is in an
 //! atomic, such as a count: tests check it.
 #![tactic(auto)]
 
 mod fault;
 mod file_sums;
+mod handlings;
 mod lane_state;
 mod log_lines;
 mod state;
 
 pub use fault::{LedgerFault, system_number};
 pub use file_sums::FileSum;
+pub use handlings::Handling;
 pub use log_lines::{LedgerLine, log_ledger_fault};
 pub use state::{LedgerReading, LedgerState};

@@ -12,13 +12,15 @@ pub fn log_ledger_fault<L: Log>(log: &L, fault: LedgerFault) {
 
 /// A log line of the ledger.
 #[derive(Clone, Copy)]
-pub enum LedgerLine {
+pub enum LedgerLine<'a> {
     /// Entries can't be written.
     Fault(LedgerFault),
     /// Entries are written again.
     Back,
     /// The sum of the run's lines.
     File(FileSum),
+    /// The run is not tied to this file of another run, which is compressed.
+    Untied(&'a str),
     /// Entries were written to a file that is gone: of this lane, so many, from this serial to that one.
     Lost(u64, u64, u64, u64),
     /// This many entries found no room.
@@ -31,7 +33,7 @@ pub enum LedgerLine {
     Missing(u64, u64, u64),
 }
 
-impl fmt::Display for LedgerLine {
+impl fmt::Display for LedgerLine<'_> {
     ghost use Rattle.ledger_state.specs.LogLines.{ledger_line};
 
     ghost output = { λ line. ledger_line line };
@@ -41,6 +43,7 @@ impl fmt::Display for LedgerLine {
             LedgerLine::Fault(fault) => write!(f, "event=ledger-fault reason=\"{fault}\""),
             LedgerLine::Back => f.write_str("event=ledger-back"),
             LedgerLine::File(its) => write!(f, "event=ledger-file {its}"),
+            LedgerLine::Untied(file) => write!(f, "event=ledger-untied file=\"{file}\""),
             LedgerLine::Dropped(count) => write!(f, "event=ledger-dropped count={count}"),
             LedgerLine::Lost(lane, count, from, to) => {
                 write!(

@@ -4,6 +4,7 @@ ghost use Rattle.std.specs.Prelude.{◌≡◌, ◌≤◌, None, vec_len};
 
 use crate::fault::LedgerFault;
 use crate::file_sums::{FileSum, FileSums};
+use crate::handlings::{Handling, UNKNOWN};
 use crate::lane_state::{LaneState, LostSerials};
 use crate::log_lines::{LedgerLine, log_ledger_fault};
 use rad_log::{Level, Log, WriterState, tell};
@@ -25,7 +26,8 @@ pub struct LedgerReading<'a> {
     pub lost: u64,
     /// How many milliseconds ago the oldest entry was handed over that waits.
     pub age: u64,
-    /// How many milliseconds ago the oldest octet was written that is not synced.
+    /// How many milliseconds ago the oldest octet was written that is not synced, or the oldest entry was handed over that
+    /// waits, whichever is longer ago.
     pub unsynced: u64,
     /// How many entries of each client were dropped, in the order of the configuration.
     pub client_dropped: &'a [AtomicU64],
@@ -69,21 +71,26 @@ pub struct LedgerState {
     left_since: OnceLock<Instant>,
     /// 1 if the last line is to be written.
     is_clean: AtomicU64,
+    /// The file of another run that the run is not tied to, since it is compressed.
+    untied: OnceLock<String>,
+    /// 1 if that was logged.
+    is_untied_told: AtomicU64,
     state: WriterState,
 }
 
 impl LedgerState {
-    /// Makes a state of so many lanes and clients without a thread and without entries.
+    /// Makes a state of so many clients, and of lanes, without a thread and without entries. Each lane has so many places for
+    /// how its requests are handled.
     ///
     /// # Errors
     ///
     /// `AllocError` if memory is refused.
-    pub fn new(alloc: Global, lanes: usize, clients: usize) -> Result<LedgerState, AllocError> {
+    pub fn new(alloc: Global, places: &[usize], clients: usize) -> Result<LedgerState, AllocError> {
         let mut client_dropped = Vec::with_capacity(alloc, clients)?;
         for _ in 0..clients {
             client_dropped.push(AtomicU64::new(0))?;
         }
-        let lanes = LaneState::of_lanes(alloc, lanes)?;
+        let lanes = LaneState::of_lanes(alloc, places)?;
         let sums = FileSums::new(alloc)?;
         Ok(LedgerState {
             begun: AtomicU64::new(0),
@@ -103,6 +110,8 @@ impl LedgerState {
             left_written: AtomicU64::new(0),
             left_since: OnceLock::new(),
             is_clean: AtomicU64::new(0),
+            untied: OnceLock::new(),
+            is_untied_told: AtomicU64::new(0),
             state: WriterState::new(),
         })
     }
@@ -116,6 +125,35 @@ impl LedgerState {
     /// Returns whether entries may come.
     pub fn is_begun(&self) -> bool {
         self.begun.load(Ordering::SeqCst) != 0
+    }
+
+    /// Records that a lane accepted the request of this number at this time, in milliseconds since 1970.
+    pub fn accept(&self, lane: u16, number: u64, time: u64) {
+        if let Some(state) = self.lanes.get(usize::from(lane)) {
+            state.handlings.accept(number, time);
+        }
+    }
+
+    /// Records that a lane sends the request of this number for the first time.
+    pub fn send_first(&self, lane: u16, number: u64) {
+        if let Some(state) = self.lanes.get(usize::from(lane)) {
+            state.handlings.send_first(number);
+        }
+    }
+
+    /// Records that a lane sends the request of this number again.
+    pub fn send_again(&self, lane: u16, number: u64) {
+        if let Some(state) = self.lanes.get(usize::from(lane)) {
+            state.handlings.send_again(number);
+        }
+    }
+
+    /// Returns how the request of this number was handled, as far as that is known.
+    pub fn handling(&self, lane: u16, number: u64) -> Handling {
+        match self.lanes.get(usize::from(lane)) {
+            Some(state) => state.handlings.of(number),
+            None => UNKNOWN,
+        }
     }
 
     /// Records that the response of this serial of a lane was handed over.
@@ -224,6 +262,11 @@ impl LedgerState {
         self.sums.tell(its);
     }
 
+    /// Records the file of another run that the run is not tied to, which is to be logged once.
+    pub fn leave_untied(&self, file: String) {
+        let _ = self.untied.try_set(file);
+    }
+
     /// Records a fault, which is to be logged. The ledger is not written again before [`LedgerState::goes_on`].
     pub fn fail(&self, fault: LedgerFault) {
         self.is_back.store(0, Ordering::SeqCst);
@@ -276,18 +319,19 @@ impl LedgerState {
     /// Returns the counts, at this moment in milliseconds since 1970.
     pub fn reading(&self, now: u64) -> LedgerReading<'_> {
         let written = self.written.load(Ordering::SeqCst);
+        let age = age_of(&self.oldest, now);
         LedgerReading {
             written,
             waiting: self.put.load(Ordering::SeqCst).saturating_sub(written),
             dropped: self.dropped.load(Ordering::SeqCst),
             lost: self.lost.load(Ordering::SeqCst),
-            age: age_of(&self.oldest, now),
-            unsynced: age_of(&self.unsynced, now),
+            age,
+            unsynced: age_of(&self.unsynced, now).max(age),
             client_dropped: self.client_dropped.as_slice(),
         }
     }
 
-    /// Logs what is not logged yet: a fault, that entries are written again, which ones are lost, or dropped how many, and
+    /// Logs what is not logged yet: that the run is not tied to the one before, a fault, that entries are written again, which ones are lost, or dropped how many, and
     /// sums.
     pub fn tell<L: Log>(&self, log: &L) {
         if let Some(fault) = LedgerFault::of_number(self.fault.swap(0, Ordering::SeqCst)) {
@@ -296,6 +340,7 @@ impl LedgerState {
         if self.is_back.swap(0, Ordering::SeqCst) != 0 {
             tell(log, Level::Info, &LedgerLine::Back);
         }
+        self.tell_untied(log);
         self.tell_lost(log);
         let dropped = self.dropped.load(Ordering::SeqCst);
         let count = dropped.saturating_sub(self.told.swap(dropped, Ordering::SeqCst));
@@ -303,6 +348,15 @@ impl LedgerState {
             tell(log, Level::Error, &LedgerLine::Dropped(count));
         }
         self.log_sums(log);
+    }
+
+    /// Logs that the run is not tied to the one before, if that is so and is not logged yet.
+    fn tell_untied<L: Log>(&self, log: &L) {
+        if let Some(file) = self.untied.get()
+            && self.is_untied_told.swap(1, Ordering::SeqCst) == 0
+        {
+            tell(log, Level::Warn, &LedgerLine::Untied(file.as_str()));
+        }
     }
 
     /// Logs the sums that are not logged yet.

@@ -1,5 +1,5 @@
 mod Accounts
+mod FileEnds
 mod Parcels
 mod Passing
 mod RunLines
-mod Sums

@@ -2,7 +2,8 @@
 use Rattle.std.specs.Prelude.{◌≡◌, ℕ, ◌⊎◌, ⊤, List, [], Option, Some, None, MatchOption, option_copied, slice_get, string_bytes}
 use Rattle.ledger_files.specs.Moments.{IsTimeOf, moment_text}
 use Rattle.ledger_files.specs.declared.utc.UtcTime.{UtcTime}
-use Rattle.ledger_lines.specs.Written.{HasValueBehind, entry_value, left_value}
+use Rattle.json_objects.specs.Written.{HasFrontBehind}
+use Rattle.ledger_lines.specs.Written.{entry_value, left_value}
 use Rattle.rad_config.specs.Realm.{realm_of_packet}
 use Rattle.rad_desk.specs.ToldValues.{first_value, status_in}
 use Rattle.rad_lane.specs.Session.{session_id}
@@ -11,7 +12,7 @@ use Rattle.ledger_rules.specs.declared.left.Left.{Left}
 use Rattle.ledger_rules.specs.declared.line_request.LineRequest.{LineRequest}
 use Rattle.rad_packet.specs.Reading.{ReadsAs, Refuses}
 use Rattle.rad_packet.specs.declared.faults.ReadFault.{ReadFault}
-use Rattle.ledger_writer.specs.declared.parcel.Fate.{Fate}
+use Rattle.rad_lane.specs.declared.leftover.LeftState.{LeftState}
 use Rattle.ledger_writer.specs.declared.parcel.ParcelKind.{ParcelKind}
 use Rattle.ledger_writer.specs.declared.parcel.ParcelKind.TheVariants.{Left as left, Response as response}
 use Rattle.ledger_writer.specs.declared.parcel.Parcel.{Parcel}
@@ -56,19 +57,21 @@ pub record IsAboutOf (names : RunNames) (head : ParcelHead) (octets moment : Lis
   pub authenticator : about.authenticator ≡ head.authenticator
   pub told : Tells octets (option_copied about.realm) (option_copied about.session) about.status (option_copied about.user)
 
--- The entry has this serial and these packets.
-pub record IsEntryOf (names : RunNames) (head : ParcelHead) (its_serial : ℕ) (sending answer given moment : List ℕ) (entry : Entry) : Type 0 where
-  pub about : IsAboutOf names head sending moment entry.about
+-- The entry has this serial, and the packets of the parcel.
+pub record IsEntryOf (names : RunNames) (parcel : Parcel) (its_serial : ℕ) (moment : List ℕ) (since : Option (List ℕ)) (entry : Entry) : Type 0 where
+  pub about : IsAboutOf names parcel.head parcel.sent.now moment entry.about
   pub serial : entry.serial ≡ its_serial
-  pub sent : entry.sent.now ≡ sending
-  pub reply : entry.reply.now ≡ answer
-  pub response : entry.response.now ≡ given
+  pub sent : entry.sent.now ≡ parcel.sent.now
+  pub reply : entry.reply.now ≡ parcel.reply.now
+  pub response : entry.response.now ≡ parcel.response.now
+  pub accepted : option_copied entry.accepted ≡ since
+  pub sendings : entry.sendings ≡ parcel.head.handling.sendings
 
--- The request that is left has this fate and these octets.
-pub record IsLeftOf (names : RunNames) (head : ParcelHead) (fate : Fate) (octets moment : List ℕ) (since : Option (List ℕ)) (left : Left) : Type 0 where
+-- The request that is left has this state and these octets.
+pub record IsLeftOf (names : RunNames) (head : ParcelHead) (its_state : LeftState) (octets moment : List ℕ) (since : Option (List ℕ)) (left : Left) : Type 0 where
   pub about : IsAboutOf names head octets moment left.about
-  pub state : left.state ≡ fate.state
-  pub sendings : left.sendings ≡ fate.sendings
+  pub state : left.state ≡ its_state
+  pub sendings : left.sendings ≡ head.handling.sendings
   pub accepted : option_copied left.accepted ≡ since
   pub request : left.request.now ≡ octets
 
@@ -84,26 +87,28 @@ IsMomentIfAny None (Some text) = ⊥
 IsMomentIfAny (Some milliseconds) None = ⊥
 IsMomentIfAny (Some milliseconds) (Some text) = IsMomentText milliseconds text
 
--- Octets that are those before, and behind them the line of an entry, or of a request that is left, that the parcel is.
+-- Octets that are those before, and behind them the body of the line of an entry, or of a request that is left, that the parcel is.
 pub record HasEntryBehind (names : RunNames) (parcel : Parcel) (its_serial : ℕ) (before all : List ℕ) : Type 0 where
   pub moment : List ℕ
+  pub since : Option (List ℕ)
   pub entry : Entry
   pub time : IsMomentText parcel.head.time moment
-  pub is : IsEntryOf names parcel.head its_serial parcel.sent.now parcel.reply.now parcel.response.now moment entry
-  pub line : HasValueBehind before all (entry_value entry)
+  pub accepted : IsMomentIfAny parcel.head.handling.accepted since
+  pub is : IsEntryOf names parcel its_serial moment since entry
+  pub line : HasFrontBehind before all (entry_value entry)
 
-pub record HasLeftBehind (names : RunNames) (parcel : Parcel) (fate : Fate) (before all : List ℕ) : Type 0 where
+pub record HasLeftBehind (names : RunNames) (parcel : Parcel) (its_state : LeftState) (before all : List ℕ) : Type 0 where
   pub moment : List ℕ
   pub since : Option (List ℕ)
   pub left : Left
   pub time : IsMomentText parcel.head.time moment
-  pub accepted : IsMomentIfAny fate.accepted since
-  pub is : IsLeftOf names parcel.head fate parcel.sent.now moment since left
-  pub line : HasValueBehind before all (left_value left)
+  pub accepted : IsMomentIfAny parcel.head.handling.accepted since
+  pub is : IsLeftOf names parcel.head its_state parcel.sent.now moment since left
+  pub line : HasFrontBehind before all (left_value left)
 
 abbrev pub HasLineOf : ParcelKind → RunNames → Parcel → List ℕ → List ℕ → Type 0
 HasLineOf (response serial sent_count reply_count response_count) names parcel before all = HasEntryBehind names parcel serial before all
-HasLineOf (left fate request_count) names parcel before all = HasLeftBehind names parcel fate before all
+HasLineOf (left state request_count) names parcel before all = HasLeftBehind names parcel state before all
 
 abbrev pub HasParcelBehind : RunNames → Parcel → List ℕ → List ℕ → Type 0
 HasParcelBehind names parcel before all = HasLineOf parcel.head.its names parcel before all

@@ -29,7 +29,7 @@ HasPassedBut (Some head) buffer parcels = HasTaken buffer (parcels ++ held_as he
 abbrev pub HasPassed : EntryBuffer → List Taken → Type 0
 HasPassed buffer parcels = HasPassedBut buffer.held buffer parcels
 
--- This is the line of a parcel, with its line end; and these are those of each of some parcels.
+-- This is the body of the line of a parcel; and these are those of each of some parcels.
 pub record IsLineOf (names : RunNames) (taken : Taken) (line : List ℕ) : Type 0 where
   pub parcel : Parcel
   pub packets : HasPackets taken.head taken.octets parcel

@@ -1,7 +1,8 @@
 -- The line that begins a file, and the line that ends a run.
-use Rattle.std.specs.Prelude.{◌≡◌, ℕ, zero, suc, ◌<◌, ◌^◌, Bool, List, [], ◌∷◌, ◌++◌, if◌then◌else◌, nat_lt, length, map, String, string_bytes, slice_get, Option, Some, None, option_copied, ⊤}
-use Rattle.sha2.specs.Sha256.{sha256}
-use Rattle.ledger_lines.specs.Written.{HasValueBehind, begin_value, end_value}
+use Rattle.std.specs.Prelude.{◌≡◌, ℕ, zero, suc, ◌<◌, ◌≤◌, ◌≢◌, Bool, List, [], ◌∷◌, ◌++◌, if◌then◌else◌, nat_lt, length, map, take, slice_index, String, string_bytes, slice_get, Option, Some, None, option_copied, ⊤}
+use Rattle.json_objects.specs.Written.{HasFrontBehind}
+use Rattle.ledger_files.specs.Tails.{tail_of}
+use Rattle.ledger_lines.specs.Written.{begin_value, end_value}
 use Rattle.ledger_lines.specs.declared.begin.Begin.{Begin}
 use Rattle.ledger_lines.specs.declared.end.End.{End}
 use Rattle.ledger_lines.specs.declared.begin.FileBefore.{FileBefore}
@@ -52,8 +53,7 @@ AreCounted lanes counts = map (λ count. count.lane) counts ≡ lane_numbers lan
 -- The file that was found, as a line names it.
 pub record Names (found : FoundFile) (file : FileBefore) : Type 0 where
   pub name : file.name.now ≡ string_bytes found.name
-  pub octets : file.octets ≡ found.octets
-  pub sha256_is : file.sha256 ≡ found.sha256
+  pub sum_is : file.sum ≡ found.sum
 
 abbrev pub NamesIfAny : Option FoundFile → Option FileBefore → Type 0
 NamesIfAny None None = ⊤
@@ -61,26 +61,29 @@ NamesIfAny None (Some file) = ⊥
 NamesIfAny (Some found) None = ⊥
 NamesIfAny (Some found) (Some file) = Names found file
 
--- A line is behind these octets that begins a file of the run.
+-- The body of a line is behind these octets that begins a file of the run.
 pub record BeginsBehind (names : RunNames) (start : FileStart) (progress : List LaneProgress) (before all : List ℕ) : Type 0 where
   pub line : Begin
   pub run : line.run ≡ names.run
   pub file : line.file ≡ start.file
-  pub sum : line.sum ≡ Some start.sum
+  pub whole : line.hidden ≡ None
   pub before_is : NamesIfAny (option_copied start.before) line.before
   pub lanes : AreStarts names.homes.items start.is_gone progress line.lanes.items
-  pub its_value : HasValueBehind before all (begin_value line)
+  pub its_value : HasFrontBehind before all (begin_value line)
 
--- A line is behind these octets that ends the run.
-pub record EndsBehind (names : RunNames) (its_sum before all : List ℕ) : Type 0 where
+-- The body of a line is behind these octets that ends the run.
+pub record EndsBehind (names : RunNames) (before all : List ℕ) : Type 0 where
   pub line : End
   pub run : line.run ≡ names.run
-  pub sum : line.sum ≡ Some its_sum
+  pub whole : line.hidden ≡ None
   pub lanes : AreCounted (length names.homes.items) line.lanes.items
-  pub its_value : HasValueBehind before all (end_value line)
+  pub its_value : HasFrontBehind before all (end_value line)
 
--- How many octets these are, and their SHA-256.
-pub record IsOfOctets (count : ℕ) (sum : List ℕ) : Type 0 where
-  pub octets : List ℕ
-  pub many : length octets < 2 ^ 64 → count ≡ length octets
-  pub sum_is : sum ≡ sha256 octets
+-- The last whole line of these octets, whose line end is the last one in them, has this sum.
+pub record EndsWithSum (octets sum : List ℕ) : Type 0 where
+  pub end : ℕ
+  pub within : end ≤ length octets
+  pub front : List ℕ
+  pub body : List ℕ
+  pub line : take end octets ≡ front ++ (body ++ tail_of sum)
+  pub last : (place : ℕ) → end ≤ place → place < length octets → slice_index octets place ≢ 10

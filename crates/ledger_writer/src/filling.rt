@@ -58,11 +58,11 @@ impl LineSource {
             if files.batch().size() >= SIZE || day_of(head.time) > day {
                 return Ok(());
             }
-            let mut line = mem::replace(&mut self.room, Vec::new(alloc));
-            line.clear();
-            let line = line_of(alloc, &self.names, &parcel, line)?;
-            files.add(line_head(head), line.as_slice())?;
-            self.room = line;
+            let mut body = mem::replace(&mut self.room, Vec::new(alloc));
+            body.clear();
+            let body = line_of(alloc, &self.names, &parcel, body)?;
+            files.add(line_head(head), body.as_slice())?;
+            self.room = body;
             self.entries.pass();
         }
         Ok(())

@@ -10,6 +10,7 @@ use crate::accounting::AccountedGiver;
 use crate::parcel::{Parcel, ParcelHead};
 use crate::shares::{ClientShares, NOTHING, Taking};
 use ledger_state::LedgerState;
+use rad_auth::Mark;
 use rad_desk::{Ledger, LeftRecord, Wire};
 use rad_lane::{Counts, Outgoing};
 use rad_metrics::time_since_1970;
@@ -87,7 +88,8 @@ impl<R: Clock> LedgerInlet<'_, R> {
         ensures handed { self.new.accounted.handed ≡ self.old.accounted.handed ++ handed_at (W.log wire.now) outgoing.now ∷ [] }
     {
         let time = self.read_time();
-        let parcel = Parcel::of(time, outgoing);
+        let Mark { lane, number } = outgoing.reply.mark();
+        let parcel = Parcel::of(time, outgoing, self.state.handling(lane, number));
         let held = self.held(&parcel.head, row);
         let clients = self.puts.len();
         let is_put = self

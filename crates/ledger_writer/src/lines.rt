@@ -1,21 +1,21 @@
 //! The lines of a ledger, made of what passed through the buffer.
 
-ghost use Rattle.std.specs.Prelude.{◌≡◌, ◌<◌, ◌^◌, IfOk, MatchOption, Some, length, option_copied, option_map, slice_get, string_bytes};
-ghost use Rattle.ledger_lines.specs.Written.{HasLineBehind};
+ghost use Rattle.std.specs.Prelude.{◌≡◌, ◌<◌, ◌^◌, IfOk, MatchOption, None, length, option_copied, option_map, slice_get, string_bytes};
+ghost use Rattle.json_objects.specs.Written.{HasBodyBehind};
 ghost use Rattle.ledger_writer.specs.Entries.{HasEntryBehind, HasLeftBehind, HasParcelBehind, IsAboutOf, IsEntryOf, IsLeftOf, IsMomentIfAny, IsMomentText, Tells};
 ghost use Rattle.ledger_writer.specs.RunLines.{AreCounted, AreStarts, BeginsBehind, EndsBehind, NamesIfAny, count_in, lane_number, serial_in};
 
-use crate::parcel::{Fate, Parcel, ParcelHead, ParcelKind};
+use crate::parcel::{Parcel, ParcelHead, ParcelKind};
 use crate::progress::LaneProgress;
 use crate::run_names::RunNames;
-use ledger_files::{FoundFile, SUM_OCTETS, UtcTime};
+use ledger_files::{FoundFile, UtcTime};
 use ledger_lines::{
     Begin, End, FileBefore, LaneCount, LaneStart, write_begin, write_end, write_entry, write_left,
 };
 use ledger_rules::{Entry, Left, LineRequest};
 use ledger_state::LedgerState;
 use rad_desk::{status_of, user_of};
-use rad_lane::session_of;
+use rad_lane::{LeftState, session_of};
 use rad_metrics::VERSION;
 use rad_packet::read;
 use rad_realms::realm_of_packet;
@@ -24,19 +24,19 @@ use std::alloc::{AllocError, Global};
 /// The greatest serial of a ledger.
 const GREATEST_SERIAL: u64 = 9_223_372_036_854_775_807;
 
-/// Writes the line of a parcel behind what these octets are.
+/// Writes the body of the line of a parcel behind what these octets are.
 pub(crate) fn line_of(
     alloc: Global,
     names: &RunNames,
     parcel: &Parcel<'_>,
     out: Vec<u8>,
 ) -> Result<Vec<u8>, AllocError>
-    ensures line { IfOk result (λ all. HasLineBehind out.items all.items) }
+    ensures body { IfOk result (λ all. HasBodyBehind out.items all.items) }
     ensures value { IfOk result (λ all. HasParcelBehind names.now parcel.now out.items all.items) }
 {
     match parcel.head.its {
         ParcelKind::Response { serial, .. } => entry_line(alloc, names, parcel, serial, out),
-        ParcelKind::Left { fate, .. } => left_line(alloc, names, parcel, fate, out),
+        ParcelKind::Left { state, .. } => left_line(alloc, names, parcel, state, out),
     }
 }
 
@@ -47,17 +47,12 @@ fn entry_line(
     serial: u64,
     out: Vec<u8>,
 ) -> Result<Vec<u8>, AllocError>
-    ensures line { IfOk result (λ all. HasLineBehind out.items all.items) }
+    ensures body { IfOk result (λ all. HasBodyBehind out.items all.items) }
     ensures value { IfOk result (λ all. HasEntryBehind names.now parcel.now serial out.items all.items) }
 {
-    let Parcel {
-        head,
-        sent,
-        reply,
-        response,
-    } = *parcel;
-    let time = time_text(alloc, head.time)?;
-    let entry = entry_of(names, head, serial, sent, reply, response, time.as_str());
+    let time = time_text(alloc, parcel.head.time)?;
+    let accepted = accepted_text(alloc, parcel.head.handling.accepted)?;
+    let entry = entry_of(names, *parcel, serial, time.as_str(), lent(&accepted));
     write_entry(alloc, &entry, out)
 }
 
@@ -65,19 +60,19 @@ fn left_line(
     alloc: Global,
     names: &RunNames,
     parcel: &Parcel<'_>,
-    fate: Fate,
+    state: LeftState,
     out: Vec<u8>,
 ) -> Result<Vec<u8>, AllocError>
-    ensures line { IfOk result (λ all. HasLineBehind out.items all.items) }
-    ensures value { IfOk result (λ all. HasLeftBehind names.now parcel.now fate out.items all.items) }
+    ensures body { IfOk result (λ all. HasBodyBehind out.items all.items) }
+    ensures value { IfOk result (λ all. HasLeftBehind names.now parcel.now state out.items all.items) }
 {
     let head = parcel.head;
     let time = time_text(alloc, head.time)?;
-    let accepted = accepted_text(alloc, fate.accepted)?;
+    let accepted = accepted_text(alloc, head.handling.accepted)?;
     let left = left_of(
         names,
         head,
-        fate,
+        state,
         parcel.sent,
         time.as_str(),
         lent(&accepted),
@@ -107,17 +102,17 @@ fn accepted_text(alloc: Global, time: Option<u64>) -> Result<Option<String>, All
 fn left_of<'a>(
     names: &'a RunNames,
     head: ParcelHead,
-    fate: Fate,
+    state: LeftState,
     request: &'a [u8],
     time: &'a str,
     accepted: Option<&'a str>,
 ) -> Left<'a>
-    ensures { IsLeftOf names.now head fate request.now time.now (option_copied accepted.entry) result }
+    ensures { IsLeftOf names.now head state request.now time.now (option_copied accepted.entry) result }
 {
     Left {
         about: about_of(names, head, request, time),
-        state: fate.state,
-        sendings: fate.sendings,
+        state,
+        sendings: head.handling.sendings,
         accepted,
         request,
     }
@@ -133,21 +128,21 @@ fn time_text(alloc: Global, time: u64) -> Result<String, AllocError>
 
 fn entry_of<'a>(
     names: &'a RunNames,
-    head: ParcelHead,
+    parcel: Parcel<'a>,
     serial: u64,
-    sent: &'a [u8],
-    reply: &'a [u8],
-    response: &'a [u8],
     time: &'a str,
+    accepted: Option<&'a str>,
 ) -> Entry<'a>
-    ensures { IsEntryOf names.now head serial sent.now reply.now response.now time.now result }
+    ensures { IsEntryOf names.now parcel.entry serial time.now (option_copied accepted.entry) result }
 {
     Entry {
-        about: about_of(names, head, sent, time),
+        about: about_of(names, parcel.head, parcel.sent, time),
         serial,
-        sent,
-        reply,
-        response,
+        sent: parcel.sent,
+        reply: parcel.reply,
+        response: parcel.response,
+        accepted,
+        sendings: parcel.head.handling.sendings,
     }
 }
 
@@ -215,15 +210,13 @@ fn told_in(request: &[u8]) -> Told<'_>
 pub(crate) struct FileStart<'a> {
     /// The number of the file.
     pub(crate) file: u64,
-    /// The sum of the lines before it.
-    pub(crate) sum: [u8; SUM_OCTETS],
     /// The file of another run that was written last, if there is one and this is the first file.
     pub(crate) before: Option<&'a FoundFile>,
     /// Whether the file before it in the run is gone, with its entries.
     pub(crate) is_gone: bool,
 }
 
-/// Writes the line that begins a file behind what these octets are. It tells the serial of the next entry of each lane, by the
+/// Writes the body of the line that begins a file behind what these octets are. It tells the serial of the next entry of each lane, by the
 /// progress of the lanes.
 pub(crate) fn begin_line(
     alloc: Global,
@@ -233,7 +226,7 @@ pub(crate) fn begin_line(
     progress: &[LaneProgress],
     out: Vec<u8>,
 ) -> Result<Vec<u8>, AllocError>
-    ensures line { IfOk result (λ all. HasLineBehind out.items all.items) }
+    ensures body { IfOk result (λ all. HasBodyBehind out.items all.items) }
     ensures begin { IfOk result (λ all. BeginsBehind names.now start.entry progress.now out.items all.items) }
 {
     let time = time_text(alloc, time)?;
@@ -250,19 +243,18 @@ fn begin_of<'a>(
 ) -> Begin<'a>
     ensures run { result.run ≡ names.now.run }
     ensures file { result.file ≡ start.entry.file }
-    ensures sum { result.sum ≡ Some start.entry.sum }
+    ensures whole { result.hidden ≡ None }
     ensures before { NamesIfAny (option_copied start.entry.before) result.before }
     ensures lanes { result.lanes.items ≡ lanes.entry.items }
 {
-    let sum = Some(start.sum);
     Begin {
         run: names.run,
         time,
         version: VERSION,
         file: start.file,
-        sum,
         before: file_before(start.before),
         lanes,
+        hidden: None,
     }
 }
 
@@ -270,11 +262,10 @@ fn file_before(found: Option<&FoundFile>) -> Option<FileBefore<'_>>
     ensures { NamesIfAny (option_copied found.entry) result }
 {
     let found = found?;
-    let sha256 = found.sha256;
+    let sum = found.sum;
     Some(FileBefore {
         name: found.name.as_str(),
-        octets: found.octets,
-        sha256,
+        sum,
     })
 }
 
@@ -350,25 +341,24 @@ fn serial_at(progress: &[LaneProgress], is_gone: bool, lane: usize) -> u64
     }
 }
 
-/// Writes the line that ends the run behind what these octets are. This is the sum of the lines before it.
+/// Writes the body of the line that ends the run behind what these octets are.
 pub(crate) fn end_line(
     alloc: Global,
     names: &RunNames,
     time: u64,
-    sum: [u8; SUM_OCTETS],
     state: &LedgerState,
     out: Vec<u8>,
 ) -> Result<Vec<u8>, AllocError>
-    ensures line { IfOk result (λ all. HasLineBehind out.items all.items) }
-    ensures end { IfOk result (λ all. EndsBehind names.now sum out.items all.items) }
+    ensures body { IfOk result (λ all. HasBodyBehind out.items all.items) }
+    ensures end { IfOk result (λ all. EndsBehind names.now out.items all.items) }
 {
     let time = time_text(alloc, time)?;
     let lanes = lane_counts(alloc, names, state)?;
     let end = End {
         run: names.run,
         time: time.as_str(),
-        sum: Some(sum),
         lanes,
+        hidden: None,
     };
     write_end(alloc, &end, out)
 }

@@ -18,7 +18,7 @@ use ledger_lines::MOST_LINE_OCTETS;
 use ledger_state::{LedgerFault, LedgerState, log_ledger_fault};
 use rad_log::Log;
 use rad_metrics::time_since_1970;
-use rad_realms::{Config, Home};
+use rad_realms::{Config, Home, LimitNumbers};
 use rtrb::RingBuffer;
 use std::alloc::{AllocError, AllocGlobal, Global};
 use std::env::{self, Env, VarError};
@@ -30,6 +30,12 @@ use std::time::{Clock, Duration};
 
 /// The environment variable that names the folder of the ledger.
 const LEDGER: &str = "RAD_PROXY_LEDGER";
+
+/// The number of Identifiers on each source port.
+const IDENTIFIERS: u32 = 256;
+
+/// How many more places for the handling of requests a lane has than it may hold requests at once.
+const BESIDE: u32 = 256;
 
 /// A ledger that is open: the front's end, the writer's end, and what they and the reporter share.
 #[derive(Drop)]
@@ -83,10 +89,13 @@ pub fn open_ledger<'a, R: Clock + RandomSource>(
     ensures lanes { IfOk result (λ opened. vec_len opened.writer.source.lanes ≡ length config.now.homes) }
     ensures clients { IfOk result (λ opened. vec_len opened.inlet.puts ≡ length config.now.clients) }
 {
-    let lanes = config.homes().len();
+    let places = places_of(alloc, config.homes())?;
     let clients = config.clients();
     let shared = Shared {
-        state: Arc::new(alloc, LedgerState::new(alloc, lanes, clients.len())?)?,
+        state: Arc::new(
+            alloc,
+            LedgerState::new(alloc, places.as_slice(), clients.len())?,
+        )?,
         shares: Arc::new(alloc, ClientShares::new(alloc, clients)?)?,
     };
     let (giver, entries) = open_buffer(alloc, &shared)?;
@@ -107,6 +116,22 @@ pub fn open_ledger<'a, R: Clock + RandomSource>(
         writer,
         state: shared.state,
     })
+}
+
+/// Returns for each lane how many places for the handling of its requests it has.
+fn places_of(alloc: Global, homes: &[Home]) -> Result<Vec<usize>, AllocError> {
+    let mut places = Vec::with_capacity(alloc, homes.len())?;
+    for home in homes {
+        places.push(places_by(home.limits().numbers()))?;
+    }
+    Ok(places)
+}
+
+/// Returns how many requests of a lane with these limits may be queued, outstanding or in the ring, and some more.
+fn places_by(limits: LimitNumbers) -> usize {
+    let pairs = limits.ports.saturating_mul(IDENTIFIERS);
+    let held = limits.queue.saturating_add(pairs);
+    held.saturating_add(limits.ring).saturating_add(BESIDE) as usize
 }
 
 /// What both ends of a ledger share.

@@ -4,6 +4,7 @@
 ghost use Rattle.std.specs.Prelude.{◌≡◌, ◌↔◌, ◌-◌, IsTrue, option_map};
 ghost use Rattle.ledger_writer.specs.Parcels.{Fits, IsCounted, IsParcelOf, IsParcelOfLeft, octets_of};
 
+use ledger_state::Handling;
 use rad_auth::{Mark, RequestHead};
 use rad_desk::LeftRecord;
 use rad_lane::{LeftState, Outgoing};
@@ -26,6 +27,8 @@ pub(crate) struct ParcelHead {
     pub(crate) port: u16,
     pub(crate) identifier: u8,
     pub(crate) authenticator: [u8; 16],
+    /// How the request was handled.
+    pub(crate) handling: Handling,
     pub(crate) its: ParcelKind,
 }
 
@@ -43,20 +46,10 @@ pub(crate) enum ParcelKind {
     },
     /// A request that is left.
     Left {
-        fate: Fate,
+        state: LeftState,
         /// How many octets it has.
         request: usize,
     },
-}
-
-/// What became of a request that is left.
-#[derive(Clone, Copy)]
-pub(crate) struct Fate {
-    pub(crate) state: LeftState,
-    /// How often it was sent, if that is known.
-    pub(crate) sendings: Option<u32>,
-    /// When it was accepted, in milliseconds since 1970, if that is known.
-    pub(crate) accepted: Option<u64>,
 }
 
 /// A parcel: its head and its packets.
@@ -72,10 +65,11 @@ pub(crate) struct Parcel<'a> {
 }
 
 impl<'a> Parcel<'a> {
-    /// Returns the parcel of a response that is handed over at this time.
-    pub(crate) fn of(time: u64, outgoing: &'a Outgoing) -> Parcel<'a>
+    /// Returns the parcel of a response that is handed over at this time, to a request that was handled so.
+    pub(crate) fn of(time: u64, outgoing: &'a Outgoing, handling: Handling) -> Parcel<'a>
         ensures counted { IsCounted result }
         ensures parcel { IsParcelOf time outgoing.now result }
+        ensures handling { result.head.handling ≡ handling }
     {
         let sent = outgoing.reply.sending();
         let reply = outgoing.reply.reply();
@@ -94,6 +88,7 @@ impl<'a> Parcel<'a> {
             port: outgoing.port,
             identifier,
             authenticator,
+            handling,
             its: ParcelKind::Response {
                 serial: outgoing.serial,
                 sent: sent.len(),
@@ -116,11 +111,6 @@ impl<'a> Parcel<'a> {
     {
         let client = told.client;
         let authenticator = told.authenticator;
-        let fate = Fate {
-            state: told.state,
-            sendings: told.sendings,
-            accepted: accepted_at(time, told.age),
-        };
         let head = ParcelHead {
             time,
             number: told.number,
@@ -129,8 +119,12 @@ impl<'a> Parcel<'a> {
             port: told.port,
             identifier: told.identifier,
             authenticator,
+            handling: Handling {
+                sendings: told.sendings,
+                accepted: accepted_at(time, told.age),
+            },
             its: ParcelKind::Left {
-                fate,
+                state: told.state,
                 request: told.request.len(),
             },
         };

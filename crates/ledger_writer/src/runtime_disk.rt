@@ -5,7 +5,7 @@ use ledger_files::{DiskFault, FoundFile, LedgerDisk};
 use ledger_state::system_number;
 use std::alloc::{AllocGlobal, Global};
 use std::fs::{self, Files, Metadata, OpenFile, OpenOptions, Permissions};
-use std::io::{self, ErrorKind, Read, Write};
+use std::io::{self, ErrorKind, Read, Seek, Write};
 use std::os::unix::fs::{MetadataExt, OpenOptionsExt, PermissionsExt};
 
 /// Who may read and write a file: its owner may do both, and its group may read it.
@@ -81,7 +81,7 @@ fn create_fault(error: io::Error) -> DiskFault {
 impl<R, F> LedgerDisk for RuntimeDisk<R, F>
 where
     R: Files<File = F> + AllocGlobal + Copy,
-    F: Read + Write + OpenFile + Drop,
+    F: Read + Write + Seek + OpenFile + Drop,
 {
     /// The file has its mode whatever the umask. If its mode can't be set or the file can't be looked at, the next call
     /// with the same path goes on with it.

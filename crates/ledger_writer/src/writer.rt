@@ -311,13 +311,19 @@ impl<R: Clock + Threads + Sync, D: LedgerDisk + Drop> Session<'_, R, D> {
     }
 
     /// Tells when the oldest entry was handed over that is not written: the first whose line is not written whole, or else
-    /// the next in the buffer.
+    /// the next in the buffer. If there is none it looks again once that is told: an entry that came meanwhile took the one
+    /// before as the oldest.
     fn tell_oldest(&mut self) {
         let oldest = match self.oldest() {
             Some(oldest) => Some(oldest),
             None => self.source.entries.next_time(),
         };
         self.source.state.set_oldest(oldest);
+        if oldest.is_none()
+            && let Some(next) = self.source.entries.next_time()
+        {
+            self.source.state.set_oldest(Some(next));
+        }
     }
 
     /// Returns the number of the day of the first line that is not written whole, or of now if there is none.
@@ -365,12 +371,12 @@ impl<R: Clock + Threads + Sync, D: LedgerDisk + Drop> Session<'_, R, D> {
         let Ok(path) = self.next_path(now) else {
             return Err(LedgerFault::Memory);
         };
-        let Ok(line) = self.first_line(now, is_gone) else {
+        let Ok(body) = self.first_line(now, is_gone) else {
             return Err(LedgerFault::Memory);
         };
         let alloc = self.alloc;
         self.files
-            .begin_file(alloc, path, line)
+            .begin_file(alloc, path, body)
             .map_err(ledger_fault)?;
         self.source.leave_file(is_gone);
         self.number = self.number.saturating_add(1);
@@ -380,12 +386,16 @@ impl<R: Clock + Threads + Sync, D: LedgerDisk + Drop> Session<'_, R, D> {
         Ok(())
     }
 
-    /// Finds the file of another run that was written last, if the first file is to be begun and it is not found yet.
+    /// Finds the file of another run that was written last, if the first file is to be begun and it is not found yet. The run
+    /// is tied to it by the sum of its last whole line; it is told once if that can't be had, since the file is compressed.
     fn find_before(&mut self) {
         if self.number == 0 && self.before.is_none() {
             let folder = self.source.folder.as_str();
             let run = self.source.names.run;
-            self.before = self.files.disk().find_before(self.alloc, folder, run);
+            match self.files.disk().find_before(self.alloc, folder, run) {
+                Some(found) if found.is_compressed => self.source.state.leave_untied(found.name),
+                found => self.before = found,
+            }
         }
     }
 
@@ -415,16 +425,14 @@ impl<R: Clock + Threads + Sync, D: LedgerDisk + Drop> Session<'_, R, D> {
         format!(in self.alloc; "{name}")
     }
 
-    /// Returns the line that begins the next file. If the one before is gone, it says from which serials on.
+    /// Returns the body of the line that begins the next file. If the one before is gone, it says from which serials on.
     fn first_line(&self, now: u64, is_gone: bool) -> Result<Vec<u8>, AllocError> {
-        let sum = self.files.sum();
         begin_line(
             self.alloc,
             &self.source.names,
             now,
             FileStart {
                 file: self.number,
-                sum,
                 before: self.before.as_ref(),
                 is_gone,
             },
@@ -439,21 +447,18 @@ impl<R: Clock + Threads + Sync, D: LedgerDisk + Drop> Session<'_, R, D> {
             return Ok(());
         }
         let now = self.read_time();
-        let line = end_line(
+        let body = end_line(
             self.alloc,
             &self.source.names,
             now,
-            self.files.sum(),
             &self.source.state,
             Vec::new(self.alloc),
         );
-        match line {
-            Ok(line) => {
-                self.files.end_with(line);
-                Ok(())
-            }
-            Err(AllocError) => Err(LedgerFault::Memory),
-        }
+        let outcome = match body {
+            Ok(body) => self.files.end_with(body),
+            Err(AllocError) => Err(AllocError),
+        };
+        outcome.map_err(|_| LedgerFault::Memory)
     }
 
     /// Writes what is not written, if there is anything. If `looks` is set, it looks whether the file is still at its path
@@ -548,5 +553,6 @@ fn ledger_fault(fault: DiskFault) -> LedgerFault {
         DiskFault::Create(number) => LedgerFault::Create(number),
         DiskFault::Write(number) => LedgerFault::Write(number),
         DiskFault::Sync(number) => LedgerFault::Sync(number),
+        DiskFault::Memory => LedgerFault::Memory,
     }
 }

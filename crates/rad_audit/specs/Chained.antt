@@ -1,22 +1,28 @@
 -- The chain of a run's lines, as the auditor reads them (own).
-use Rattle.std.specs.Prelude.{◌≡◌, ℕ, ◌<◌, ◌⊎◌, List, Option, Some, None, IfSome, MatchOption}
-use Rattle.ledger_files.specs.Chains.{chain_from}
+use Rattle.std.specs.Prelude.{◌≡◌, ◌≢◌, ℕ, ◌⊎◌, false, List, Option, Some, None, IfSome, is_some, if◌then◌else◌, option_map}
+use Rattle.ledger_files.specs.Chains.{chain_after}
+use Rattle.rad_audit.specs.declared.chains.LineSum.{LineSum}
 use Rattle.rad_audit.specs.declared.chains.RunChain.{RunChain}
 
--- What a chain shows of the lines from the last `begin` on: it goes on from the sum that this has, by the SHA-256 of each line, in order;
--- of a line that is left out that is what stands in its place. There is no chain if that `begin` has no sum.
-abbrev pub Binds : RunChain → Option (List ℕ) → List (List ℕ) → Type 0
-Binds run None digests = run.chain ≡ None
-Binds run (Some sum) digests = MatchOption run.chain ⊥ (λ chain. chain.sum ≡ chain_from sum digests)
+-- The sum of a line is right behind a line of this sum. Any is, where that is not known, or where the line or a part of it is left out.
+abbrev pub Fits : Option (List ℕ) → LineSum → Type 0
+Fits last line = IfSome last (λ sum. IfSome line.digest (λ digest. chain_after sum digest ≡ line.sum))
 
--- The sum that a `begin` has is right, where the file of this number comes next, or none was read if that is 0, and the lines before have
--- this chain. A run without sums has none from its first line on. The first `begin` that is read may be of any file, and files may be
--- missing; but each file comes once, and behind the file before it its sum is the chain.
-abbrev pub IsRightBegin : ℕ → Option (List ℕ) → ℕ → Option (List ℕ) → Type 0
-IsRightBegin next chain file None = (next ≡ 0) ⊎ (chain ≡ None)
-IsRightBegin next chain file (Some sum) = (next < file) ⊎ ((file ≡ next) × IfSome chain (λ its. its ≡ sum))
+-- The sum that a line has, and how many lines are left out with it.
+abbrev pub sum_of : Option LineSum → Option (List ℕ)
+sum_of line = option_map (λ its. its.sum) line
 
--- The same of an `end`: its sum is the chain, if there is one.
-abbrev pub IsRightEnd : Option (List ℕ) → Option (List ℕ) → Type 0
-IsRightEnd chain None = chain ≡ None
-IsRightEnd chain (Some sum) = IfSome chain (λ its. its ≡ sum)
+abbrev pub left_out : Option LineSum → ℕ
+left_out None = 0
+left_out (Some line) = if is_some line.digest then 0 else 1
+
+-- In a file whose `begin` has a sum, each line has one, which is right behind the line before it.
+abbrev pub IsRightLine : RunChain → Option LineSum → Type 0
+IsRightLine chain None = chain.sealed ≡ false
+IsRightLine chain (Some line) = (chain.sealed ≡ false) ⊎ Fits chain.last line
+
+-- A `begin` has a sum, unless it is the first one that is read or the one before has none. It is right behind the last line of the file
+-- before. The first `begin` that is read may be of any file, and files may be missing: then any sum is right.
+abbrev pub IsRightBegin : RunChain → ℕ → Option LineSum → Type 0
+IsRightBegin chain file None = (chain.next ≡ 0) ⊎ (chain.sealed ≡ false)
+IsRightBegin chain file (Some line) = (chain.next ≢ file) ⊎ ((chain.sealed ≡ false) ⊎ Fits chain.last line)

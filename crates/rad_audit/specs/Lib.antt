@@ -5,7 +5,6 @@ pub mod Files
 pub mod Kept
 pub mod Lines
 pub mod Printed
-pub mod ReadFiles
 pub mod Rows
 pub mod Shown
 pub mod Statuses

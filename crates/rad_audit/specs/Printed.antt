@@ -42,6 +42,7 @@ line_of (finding.Torn place) = place_text place ++ codes ": torn"
 line_of (finding.Gap place name gap) = place_text place ++ codes ": " ++ name_text name ++ codes " " ++ gap_text gap
 line_of (finding.Files place run files) =
     place_text place ++ codes ": run " ++ run_text run ++ codes " files " ++ decimal files.first ++ codes " to " ++ decimal files.last ++ codes " missing"
+line_of (finding.Second place run) = place_text place ++ codes ": run " ++ run_text run ++ codes " behind another run"
 line_of (finding.Lane counts) = name_text counts.name ++ codes " " ++ counts_text counts
 line_of (finding.Part counts) = name_text counts.name ++ codes " " ++ reasons_text counts
 line_of (finding.Fates name fates) =
@@ -50,4 +51,5 @@ line_of (finding.Ranges name) = name_text name ++ codes " more than 4096 ranges"
 line_of (finding.Back name steps) = name_text name ++ codes " " ++ steps_text steps
 line_of (finding.Hidden run count) = codes "run " ++ run_text run ++ codes " hidden " ++ decimal count
 line_of (finding.Before run file) = codes "run " ++ run_text run ++ codes " before " ++ word_text (string_bytes file.now.name.0) ++ codes " missing"
+line_of (finding.Untied run) = codes "run " ++ run_text run ++ codes " untied"
 line_of (finding.Sum word) = word_text word.now ++ codes ": " ++ reason_text WrongSum

@@ -1,7 +1,9 @@
 -- How the program ends (own).
-use Rattle.std.specs.Prelude.{◌≡◌, ℕ, Bool, true, false, not, ◌&&◌, ◌||◌, ◌==◌, if◌then◌else◌}
+use Rattle.std.specs.Prelude.{◌≡◌, ℕ, ◌-◌, Bool, true, false, not, ◌&&◌, ◌||◌, ◌==◌, nat_le, max, if◌then◌else◌, Option, Some, None, unwrap_or}
 use Rattle.ledger_rules.specs.declared.tally.Verdict.{Verdict}
 use Rattle.ledger_rules.specs.declared.tally.Verdict.TheVariants.{Open, Missing, Unaccounted, Contradicted}
+use Rattle.ledger_rules.specs.declared.account.Fates.{Fates}
+use Rattle.rad_audit.specs.declared.runs.Lane.{Lane}
 use Rattle.rad_audit.specs.declared.faults.Fault.{Fault}
 use Rattle.rad_audit.specs.declared.faults.Fault.TheVariants.{Usage, File, Configuration, Memory, Output}
 use Rattle.rad_audit.specs.declared.printing.Asked.{Asked}
@@ -52,23 +54,35 @@ abbrev pub is_unasked : Asked → LaneCounts → Bool
 is_unasked asked counts =
     (counts.late && not (asked.from || asked.partial)) || ((counts.bare || (counts.uncounted || not (counts.not_judged == 0))) && not asked.partial)
 
+-- Whether lines that are left out may be all that is missing of a lane: responses, or if none is missing requests that were left.
+abbrev pub missing_of : Lane → ℕ
+missing_of lane = max lane.tally.next (unwrap_or lane.tally.end 0) - lane.tally.first - lane.tally.entries
+
+abbrev pub is_left_covered : Lane → Option Fates → Bool
+is_left_covered lane None = false
+is_left_covered lane (Some told) = not (lane.hidden.left == 0) && nat_le (told.left - lane.account.left) lane.hidden.left
+
+abbrev pub is_covered : Lane → Bool
+is_covered lane = if missing_of lane == 0 then is_left_covered lane lane.account.told else nat_le (missing_of lane) lane.hidden.entries
+
 -- What is found with one lane more.
 abbrev pub found_in : Asked → LaneCounts → Findings → Findings
 found_in asked counts f =
     record f {
       contradicted = f.contradicted || is_contradicted counts.verdict;
-      gap = f.gap || is_missing counts.verdict;
+      gap = f.gap || (is_missing counts.verdict && not (asked.partial && counts.covered));
       part = f.part || is_unasked asked counts;
       nothing = false;
       unended = f.unended || is_open counts.verdict;
     }
 
--- What is found with one finding more. What is torn, or back in time, is no fault.
+-- What is found with one finding more. What is torn, or back in time, is no fault. A gap is that of its lane.
 abbrev pub found_with : Asked → Finding → Findings → Findings
 found_with asked (finding.Wrong place reason) f = record f { wrong = true }
 found_with asked (finding.Torn place) f = f
-found_with asked (finding.Gap place name gap) f = record f { gap = true }
+found_with asked (finding.Gap place name gap) f = f
 found_with asked (finding.Files place run files) f = record f { file = true }
+found_with asked (finding.Second place run) f = f
 found_with asked (finding.Lane counts) f = found_in asked counts f
 found_with asked (finding.Part counts) f = f
 found_with asked (finding.Fates name fates) f = f
@@ -76,4 +90,5 @@ found_with asked (finding.Ranges name) f = f
 found_with asked (finding.Back name steps) f = f
 found_with asked (finding.Hidden run count) f = record f { part = f.part || not asked.partial }
 found_with asked (finding.Before run file) f = record f { run = f.run || asked.all }
+found_with asked (finding.Untied run) f = record f { run = f.run || asked.all }
 found_with asked (finding.Sum word) f = record f { wrong = true }

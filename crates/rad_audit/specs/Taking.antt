@@ -5,15 +5,18 @@ use Rattle.rad_lane.specs.Session.{session_id}
 use Rattle.ledger_rules.specs.Judging.{ArePacketsRight, IsInPlace, IsWrong}
 use Rattle.ledger_rules.specs.Leaving.{IsRightlyLeft, IsWronglyLeft}
 use Rattle.ledger_rules.specs.Counting.{Counts, LeavesGap}
-use Rattle.ledger_rules.specs.Numbers.{IsAsBefore, IsKnown, Keeps}
+use Rattle.ledger_rules.specs.Numbers.{IsAsBefore, IsKnown, IsKnownAbsent, Keeps}
 use Rattle.ledger_rules.specs.declared.account.Account.{Account}
 use Rattle.ledger_rules.specs.declared.entry.Entry.{Entry}
 use Rattle.ledger_rules.specs.declared.left.Left.{Left}
 use Rattle.ledger_rules.specs.declared.line_request.LineRequest.{LineRequest}
 use Rattle.ledger_rules.specs.declared.reason.Reason.{Reason}
-use Rattle.ledger_rules.specs.declared.reason.Reason.TheVariants.{NotEntry, NoPacket, WrongSent, WrongRequest, WrongReply, WrongResponse, SerialNotAbove, UnknownLane, RecordTwice, WrongWords, WrongSum}
+use Rattle.ledger_rules.specs.declared.reason.Reason.TheVariants.{NotEntry, NoPacket, WrongSent, WrongRequest, WrongReply, WrongResponse, SerialNotAbove, UnknownLane, RecordTwice, UnknownRecord, WrongWords, FileAgain, OtherLanes, WrongSum}
 use Rattle.ledger_rules.specs.declared.tally.Gap.{Gap}
 use Rattle.ledger_rules.specs.declared.tally.Tally.{Tally}
+use Rattle.ledger_lines.specs.declared.hidden.HiddenKind.{HiddenKind}
+use Rattle.ledger_lines.specs.declared.hidden.HiddenKind.TheVariants.{Entry as AnEntry, Left as ALeft, Unsent as AnUnsent, Again as AnAgain}
+use Rattle.rad_audit.specs.declared.hidden.HiddenLines.{HiddenLines}
 use Rattle.rad_audit.specs.Facts.{number_at, value_at}
 use Rattle.rad_audit.specs.declared.wording.LineWords.{LineWords}
 use Rattle.rad_audit.specs.declared.taking.TakenEntry.{TakenEntry}
@@ -41,6 +44,17 @@ pub record HasItsWords (packet : List ℕ) (words : LineWords) : Type 0 where
 abbrev pub words_of : LineRequest → LineWords
 words_of about = record { realm = about.realm; session = about.session; user = about.user; status = about.status }
 
+-- A line more that is left out.
+abbrev pub with_hidden : HiddenKind → HiddenLines → HiddenLines
+with_hidden AnEntry lines = record lines { entries = min (lines.entries + 1) (2 ^ 64 - 1) }
+with_hidden ALeft lines = record lines { left = min (lines.left + 1) (2 ^ 64 - 1) }
+with_hidden AnUnsent lines = lines
+with_hidden AnAgain lines = lines
+
+-- No line of the lane has this number, as far as that is known, and no response of the lane is missing so far.
+abbrev pub LacksRecord : Tally → Account → ℕ → Type 0
+LacksRecord tally account number = IsKnownAbsent account.numbers number × (tally.entries ≡ tally.next)
+
 -- Nothing is wrong with it, and it is one more of the lane's entries, behind this gap if there is one.
 pub record IsCounted (e : Entry) (home client : Option (List ℕ)) (old : Tally) (was : Account) (gap : Option Gap) (new : Tally) (is : Account) : Type 0 where
   pub right : ArePacketsRight e home client
@@ -64,8 +78,11 @@ IsWrongEntry e home client old was WrongResponse = IsWrong e home client (Some o
 IsWrongEntry e home client old was SerialNotAbove = IsWrong e home client (Some old.next) (IsKnown was.numbers e.about.number) SerialNotAbove
 IsWrongEntry e home client old was UnknownLane = ⊥
 IsWrongEntry e home client old was RecordTwice = IsWrong e home client (Some old.next) (IsKnown was.numbers e.about.number) RecordTwice
+IsWrongEntry e home client old was UnknownRecord = ⊥
 IsWrongEntry e home client old was WrongWords =
     ArePacketsRight e home client × IsInPlace e.serial (Some old.next) × (¬ IsKnown was.numbers e.about.number) × ¬ HasItsWords e.sent.now (words_of e.about)
+IsWrongEntry e home client old was FileAgain = ⊥
+IsWrongEntry e home client old was OtherLanes = ⊥
 IsWrongEntry e home client old was WrongSum = ⊥
 
 abbrev pub Takes : Entry → Option (List ℕ) → Option (List ℕ) → Tally → Account → TakenEntry → Tally → Account → Type 0
@@ -90,7 +107,10 @@ IsWrongLeft left client was WrongResponse = ⊥
 IsWrongLeft left client was SerialNotAbove = ⊥
 IsWrongLeft left client was UnknownLane = ⊥
 IsWrongLeft left client was RecordTwice = IsWronglyLeft left client ⊤ (IsKnown was.numbers left.about.number) RecordTwice
+IsWrongLeft left client was UnknownRecord = ⊥
 IsWrongLeft left client was WrongWords = IsRightlyLeft left client ⊤ (IsKnown was.numbers left.about.number) × ¬ HasItsWords left.request.now (words_of left.about)
+IsWrongLeft left client was FileAgain = ⊥
+IsWrongLeft left client was OtherLanes = ⊥
 IsWrongLeft left client was WrongSum = ⊥
 
 abbrev pub Leaves : Left → Option (List ℕ) → Account → Option Reason → Account → Type 0

@@ -7,19 +7,25 @@ ghost use Rattle.rad_audit.specs.Lines.{IsFront};
 ghost use Rattle.rad_audit.specs.Statuses.{IsStatus};
 ghost use Rattle.rad_audit.specs.declared.faults.Fault.TheVariants.{Output};
 
+use crate::chains::LineSum;
 use crate::faults::Fault;
+use crate::hints::Hints;
 use crate::kept_sums::KeptSums;
 use crate::line_room::{LineRoom, Piece};
+use crate::named_file::{NamedFile, parts_of};
 use crate::printing::{
     Asked, Finding, Findings, LaneCounts, LaneName, LinePlace, NO_FINDINGS, Outputs, Report,
 };
-use crate::read_file::FileSoFar;
 use crate::runs::{Lane, Run, Runs};
-use crate::taking::{TakenEntry, judge_stray, judge_stray_left, take_entry, take_left};
-use ledger_lines::{
-    Begin, End, Hidden, LaneCount, Line, LineFault, MOST_LINE_OCTETS, Room, moment_of, read_line,
+use crate::taking::{
+    TakenEntry, judge_count, judge_stray, judge_stray_left, take_entry, take_left,
 };
-use ledger_rules::{EndCounts, Entry, Fates, Left, Reason};
+use crate::ties::{Tie, Ties};
+use ledger_lines::{
+    Begin, End, FileBefore, Hidden, LaneCount, Line, LineFault, MOST_LINE_OCTETS, Room, SummedLine,
+    moment_of, read_line,
+};
+use ledger_rules::{EndCounts, Entry, Fates, Left, Reason, RecordCount};
 use libc::{STDERR_FILENO, isatty};
 use rad_auth::Secret;
 use rad_realms::{Config, Home};
@@ -80,11 +86,55 @@ struct Audit<'a, W> {
     room: Room,
     line: LineRoom,
     held: Held,
-    /// The file that is read.
-    file: FileSoFar,
+    hints: Hints,
+    known: Known<'a>,
+    report: Report<'a, W>,
+}
+
+/// What is known of the runs, and the sums that are looked for.
+#[derive(Drop)]
+struct Known<'a> {
     runs: Runs,
     sums: KeptSums<'a>,
-    report: Report<'a, W>,
+    ties: Ties,
+    /// The run of the last `begin` line of the file that is read.
+    begun: Option<u64>,
+}
+
+impl Known<'_> {
+    /// Takes the sum of a line of a run in this file.
+    fn see(&mut self, run: u64, file: u64, sum: [u8; 32]) {
+        self.sums.see(run, file, sum);
+        self.ties.see(run, sum);
+    }
+
+    /// Looks for the line of another run that a first line names by its sum, if it does: it may have been read, or is read later.
+    fn expect(&mut self, before: Option<FileBefore<'_>>) -> Result<(), AllocError> {
+        let Some(
+            FileBefore {
+                name,
+                sum: Some(sum),
+            },
+        ) = before
+        else {
+            return Ok(());
+        };
+        let Some(parts) = parts_of(name) else {
+            return Ok(());
+        };
+        if self.ties.has(parts.run, sum) {
+            return Ok(());
+        }
+        let is_found = match self.runs.of(parts.run) {
+            Some(run) => run.chain.last() == Some(sum),
+            None => false,
+        };
+        self.ties.add(Tie {
+            run: parts.run,
+            sum,
+            is_found,
+        })
+    }
 }
 
 impl<'a, W: Write> Audit<'a, W> {
@@ -102,9 +152,13 @@ impl<'a, W: Write> Audit<'a, W> {
             room: Room::new(alloc)?,
             line,
             held: Held { octets, line: None },
-            file: FileSoFar::new(false),
-            runs: Runs::new(alloc),
-            sums,
+            hints: Hints::new(),
+            known: Known {
+                runs: Runs::new(alloc),
+                sums,
+                ties: Ties::new(alloc),
+                begun: None,
+            },
             report,
         })
     }
@@ -116,12 +170,52 @@ impl<'a, W: Write> Audit<'a, W> {
         ensures { IfOk result IsStatus }
     {
         let is_watched = isatty(STDERR_FILENO) == 1;
+        self.look_ahead(rt, files)?;
         let read = self.open_each(rt, files, is_watched);
         if is_watched {
             clear_place(rt);
         }
         read?;
+        self.hints.tell(rt, &self.known.runs);
         self.end()
+    }
+
+    /// Reads the first line of each file that can be read twice, for the line of another run that it names.
+    fn look_ahead<R: Runtime>(&mut self, rt: &R, files: &[&str]) -> Result<(), Fault>
+    where
+        R::File: Drop,
+    {
+        for path in files {
+            if fs::metadata(rt, path).is_ok_and(|found| found.is_file()) {
+                self.look_into(rt, path)?;
+            }
+        }
+        Ok(())
+    }
+
+    fn look_into<R: Runtime>(&mut self, rt: &R, path: &str) -> Result<(), Fault>
+    where
+        R::File: Drop,
+    {
+        let Ok(file) = fs::open(rt, path) else {
+            return Ok(());
+        };
+        let Ok(mut reader) = BufReader::with_capacity(self.alloc, READ_OCTETS, file) else {
+            return Err(Fault::Memory);
+        };
+        let Ok(Piece::Whole) = self.line.read(&mut reader) else {
+            return Ok(());
+        };
+        match read_line(self.alloc, self.line.as_slice(), &mut self.room) {
+            Ok(
+                SummedLine {
+                    line: Line::Begin(begin),
+                    ..
+                },
+            ) => Ok(self.known.expect(begin.before)?),
+            Err(LineFault::OutOfMemory) => Err(Fault::Memory),
+            _ => Ok(()),
+        }
     }
 
     fn open_each<R: Runtime>(
@@ -160,26 +254,24 @@ impl<'a, W: Write> Audit<'a, W> {
         reader: &mut R,
         is_watched: bool,
     ) -> Result<(), Fault> {
-        self.file = FileSoFar::new(self.report.asked.all);
+        self.known.begun = None;
         for line in 1..u64::MAX {
             let place = LinePlace { file, line };
             if is_watched && line.is_multiple_of(LINES_APART) {
                 tell_place(rt, place);
             }
-            let piece = match self.line.read(reader, &mut self.file) {
+            let piece = match self.line.read(reader) {
                 Ok(piece) => piece,
                 Err(error) => return Err(Fault::of_file(self.alloc, file, &error)),
             };
             self.settle(file)?;
+            self.hints.see(line, self.line.as_slice());
             match piece {
                 Piece::Whole => self.take(place)?,
                 Piece::TooLong => self.report.tell(Finding::Wrong(place, Reason::NotEntry))?,
                 Piece::Unended => self.report.tell(Finding::Torn(place))?,
                 Piece::End => break,
             }
-        }
-        if let Some(file) = self.file.end() {
-            self.runs.keep_file(file);
         }
         Ok(())
     }
@@ -210,32 +302,38 @@ impl<'a, W: Write> Audit<'a, W> {
     #[tactic(auto, using(crate::proofs::Entries::serial_of_line))]
     fn take_read(&mut self, place: LinePlace<'_>) -> Result<bool, Fault> {
         let (alloc, config) = (self.alloc, self.config);
-        let (runs, sums, report) = (&mut self.runs, &mut self.sums, &mut self.report);
-        let line = self.line.as_slice();
-        let taken = match read_line(alloc, line, &mut self.room) {
-            Ok(Line::Entry(entry)) => {
-                pass_line(runs, sums, entry.about.run, line);
-                count_entry(alloc, config, runs, report, place, &entry)
-            }
-            Ok(Line::Left(left)) => {
-                pass_line(runs, sums, left.about.run, line);
-                count_left(config, runs, report, place, &left)
-            }
-            Ok(Line::Begin(begin)) => {
-                self.file.begin(begin.run, begin.file);
-                begin_file(alloc, runs, report, place, &begin)?;
-                pass_begin(runs, sums, report, place, &begin, line)
-            }
-            Ok(Line::End(end)) => {
-                check_end(runs, report, place, &end)?;
-                pass_line(runs, sums, end.run, line);
-                take_end(runs, report, place, &end)
-            }
-            Ok(Line::Hidden(hidden)) => pass_hidden(runs, sums, report, place, &hidden),
+        let (known, report) = (&mut self.known, &mut self.report);
+        let octets = self.line.as_slice();
+        let read = match read_line(alloc, octets, &mut self.room) {
+            Ok(read) => read,
             Err(LineFault::NotALine) => return Ok(false),
             Err(LineFault::OutOfMemory) => return Err(Fault::Memory),
         };
-        taken?;
+        let sum = LineSum::of(octets);
+        match read.line {
+            Line::Entry(entry) => {
+                pass_line(known, report, place, entry.about.run, sum)?;
+                count_entry(alloc, config, &mut known.runs, report, place, &entry)?;
+            }
+            Line::Left(left) => {
+                pass_line(known, report, place, left.about.run, sum)?;
+                count_left(config, &mut known.runs, report, place, &left)?;
+            }
+            Line::Unsent(count) | Line::Again(count) => {
+                pass_line(known, report, place, count.run, sum)?;
+                take_count(&mut known.runs, report, place, &count)?;
+            }
+            Line::Begin(begin) => {
+                begin_file(alloc, known, report, place, &begin)?;
+                pass_begin(known, report, place, &begin, sum)?;
+            }
+            Line::End(end) => {
+                let sum = cut_by(end.hidden, sum);
+                pass_line(known, report, place, end.run, sum)?;
+                take_end(&mut known.runs, report, place, &end)?;
+            }
+            Line::Hidden(hidden) => pass_hidden(known, report, place, &hidden)?,
+        }
         Ok(true)
     }
 
@@ -251,10 +349,8 @@ impl<'a, W: Write> Audit<'a, W> {
         ensures status { IfOk result IsStatus }
         ensures fault { IfErr result (λ fault. fault ≡ Output) }
     {
-        for run in self.runs.as_slice() {
-            tell_run(&mut self.report, &self.runs, run)?;
-        }
-        for kept in self.sums.as_slice() {
+        tell_runs(&mut self.report, &self.known)?;
+        for kept in self.known.sums.as_slice() {
             if !kept.is_found {
                 self.report.tell(Finding::Sum(kept.word))?;
             }
@@ -272,37 +368,58 @@ fn clear_place<R: Runtime>(rt: &R) {
     let _ = eprint!(rt; "\u{1b}[K");
 }
 
-/// A file begins. Tells which files of its run are missing before it, if any are.
+/// A file begins. Tells if another run began in it before, what is wrong with its number and its lanes, and which files of its run
+/// are missing before it, if any are.
 fn begin_file<W: Write>(
     alloc: Global,
-    runs: &mut Runs,
+    known: &mut Known<'_>,
     report: &mut Report<'_, W>,
     place: LinePlace<'_>,
     begin: &Begin<'_>,
 ) -> Result<(), Fault> {
-    match runs.begin(alloc, begin)? {
+    if known.begun.is_some_and(|run| run != begin.run) {
+        report.tell(Finding::Second(place, begin.run))?;
+    }
+    known.begun = Some(begin.run);
+    let Some(run) = known.runs.run(begin.run) else {
+        known.runs.add(alloc, begin)?;
+        return Ok(known.expect(begin.before)?);
+    };
+    if run.files.has_passed(begin.file) {
+        report.tell(Finding::Wrong(place, Reason::FileAgain))?;
+    } else if !run.goes_on(begin.lanes.as_slice()) {
+        report.tell(Finding::Wrong(place, Reason::OtherLanes))?;
+    }
+    match run.files.take(begin.file) {
         Some(files) => report.tell(Finding::Files(place, begin.run, files)),
         None => Ok(()),
     }
 }
 
-/// Adds the first line of a file to the chain of its run. Tells if its sum is not that of the lines before it.
+/// Takes the sum of the first line of a file. Tells if it is not right behind the last line of the file before.
 fn pass_begin<W: Write>(
-    runs: &mut Runs,
-    sums: &mut KeptSums<'_>,
+    known: &mut Known<'_>,
     report: &mut Report<'_, W>,
     place: LinePlace<'_>,
     begin: &Begin<'_>,
-    line: &[u8],
+    sum: Option<LineSum>,
 ) -> Result<(), Fault> {
-    let Some(run) = runs.run(begin.run) else {
+    let Some(run) = known.runs.run(begin.run) else {
         return Ok(());
     };
-    let is_right = run.chain.begin(begin.file, begin.sum, line);
-    if let Some(sum) = begin.sum {
-        sums.see(begin.run, begin.file, sum);
+    let before = if run.chain.next() == begin.file {
+        run.chain.last()
+    } else {
+        None
+    };
+    let sum = cut_by(begin.hidden, sum);
+    let is_right = run.chain.begin(begin.file, sum);
+    if let Some(its) = sum {
+        if let Some(before) = before {
+            known.sums.see(begin.run, begin.file, before);
+        }
+        known.see(begin.run, begin.file, its.sum);
     }
-    sums.see_run(run);
     tell_sum(report, place, is_right)
 }
 
@@ -317,41 +434,72 @@ fn tell_sum<W: Write>(
     report.tell(Finding::Wrong(place, Reason::WrongSum))
 }
 
-/// Adds a line to the chain of its run, if that is known.
-fn pass_line(runs: &mut Runs, sums: &mut KeptSums<'_>, run: u64, line: &[u8]) {
-    if let Some(run) = runs.run(run) {
-        run.chain.pass(line);
-        sums.see_run(run);
+/// Returns what the end of a line says, of which lanes are left out if a number of them is told.
+fn cut_by(hidden: Option<u32>, sum: Option<LineSum>) -> Option<LineSum> {
+    match sum {
+        Some(its) if hidden.is_some() => Some(LineSum::left_out(its.sum)),
+        _ => sum,
     }
 }
 
-/// Adds a line that is left out to the chain of the run of the line before it. Tells if there is no such run.
+/// Takes the sum of a line of a run, if that is known. Tells if it is not right behind the line before.
+fn pass_line<W: Write>(
+    known: &mut Known<'_>,
+    report: &mut Report<'_, W>,
+    place: LinePlace<'_>,
+    run: u64,
+    sum: Option<LineSum>,
+) -> Result<(), Fault> {
+    let Some(run) = known.runs.run(run) else {
+        return Ok(());
+    };
+    let is_right = run.chain.pass(sum);
+    let (name, file) = (run.run, run.chain.file());
+    if run.chain.is_sealed() {
+        if let Some(its) = sum {
+            known.see(name, file, its.sum);
+        }
+    }
+    tell_sum(report, place, is_right)
+}
+
+/// Takes the sum of a line that is left out, as one of the run of the line before it. Tells if there is no such run.
 fn pass_hidden<W: Write>(
-    runs: &mut Runs,
-    sums: &mut KeptSums<'_>,
+    known: &mut Known<'_>,
     report: &mut Report<'_, W>,
     place: LinePlace<'_>,
     hidden: &Hidden,
 ) -> Result<(), Fault> {
-    let Some(run) = runs.last() else {
+    let Some(run) = known.runs.last() else {
         return report.tell(Finding::Wrong(place, Reason::UnknownLane));
     };
-    run.chain.pass_hidden(hidden.sum);
-    sums.see_run(run);
-    Ok(())
+    run.hide(hidden.lane, hidden.kind);
+    let name = run.run;
+    pass_line(
+        known,
+        report,
+        place,
+        name,
+        Some(LineSum::left_out(hidden.sum)),
+    )
 }
 
-/// Tells if the sum of a line that ends a run is not that of the lines before it.
-fn check_end<W: Write>(
+/// Takes a count of what became of a response.
+fn take_count<W: Write>(
     runs: &mut Runs,
     report: &mut Report<'_, W>,
     place: LinePlace<'_>,
-    end: &End<'_>,
+    count: &RecordCount<'_>,
 ) -> Result<(), Fault> {
-    match runs.run(end.run) {
-        Some(run) => tell_sum(report, place, run.chain.is_right_end(end.sum)),
-        None => Ok(()),
+    let lane = match runs.lane(count.run, count.lane) {
+        Some(lane) if lane.home.as_str() == count.home => lane,
+        _ => return report.tell(Finding::Wrong(place, Reason::UnknownLane)),
+    };
+    if let Some(reason) = judge_count(count, &lane.tally, &lane.account) {
+        return report.tell(Finding::Wrong(place, reason));
     }
+    lane.ending.go_on();
+    Ok(())
 }
 
 fn is_front(front: &[u8], next: &[u8]) -> bool
@@ -381,7 +529,12 @@ fn count_entry<W: Write>(
     };
     let (tally, account) = (&mut lane.tally, &mut lane.account);
     match take_entry(alloc, entry, home, client, tally, account)? {
-        TakenEntry::Wrong(reason) => report.tell(Finding::Wrong(place, reason)),
+        TakenEntry::Wrong(reason) => {
+            if reason == Reason::WrongSent {
+                lane.wrong_sent = lane.wrong_sent.saturating_add(1);
+            }
+            report.tell(Finding::Wrong(place, reason))
+        }
         TakenEntry::Counted(gap) => {
             lane.ending.go_on();
             lane.times.take(moment_of(entry.about.time));
@@ -424,9 +577,25 @@ fn count_left<W: Write>(
     }
 }
 
-/// Prints what each lane of a run has, how many of its lines are left out, if any are, and if a file that it names was not
+/// Prints what each lane of each run has, and which runs name no other one, though an earlier one does not either.
+fn tell_runs<W: Write>(report: &mut Report<'_, W>, known: &Known<'_>) -> Result<(), Fault>
+    ensures { IfErr result (λ fault. fault ≡ Output) }
+{
+    let mut has_untied = false;
+    for run in known.runs.as_slice() {
+        tell_run(report, known, run)?;
+        let is_untied = report.asked.all && run.is_untied();
+        if is_untied && has_untied {
+            report.tell(Finding::Untied(run.run))?;
+        }
+        has_untied = has_untied || is_untied;
+    }
+    Ok(())
+}
+
+/// Prints what each lane of a run has, how many of its lines are left out, if any are, and if the file that it names was not
 /// read.
-fn tell_run<W: Write>(report: &mut Report<'_, W>, runs: &Runs, run: &Run) -> Result<(), Fault>
+fn tell_run<W: Write>(report: &mut Report<'_, W>, known: &Known<'_>, run: &Run) -> Result<(), Fault>
     ensures { IfErr result (λ fault. fault ≡ Output) }
 {
     for lane in run.lanes.as_slice() {
@@ -436,8 +605,19 @@ fn tell_run<W: Write>(report: &mut Report<'_, W>, runs: &Runs, run: &Run) -> Res
         report.tell(hidden)?;
     }
     match &run.before {
-        Some(file) if !runs.has(file) => report.tell(Finding::Before(run.run, file)),
+        Some(file) if !has(known, file) => report.tell(Finding::Before(run.run, file)),
         _ => Ok(()),
+    }
+}
+
+/// Whether the line of another run that a run names was read; by its file, if the run does not name its sum.
+fn has(known: &Known<'_>, file: &NamedFile) -> bool {
+    let Some(sum) = file.sum() else {
+        return known.runs.has(file);
+    };
+    match file.parts() {
+        Some(parts) => known.ties.is_found(parts.run, sum),
+        None => false,
     }
 }
 

@@ -12,7 +12,7 @@ pub struct RunFiles {
 }
 
 impl RunFiles {
-    ghost use Rattle.std.specs.Prelude.{◌≡◌, ◌+◌, ◌-◌, ◌^◌, ◌==◌, not, max, min};
+    ghost use Rattle.std.specs.Prelude.{◌≡◌, ◌+◌, ◌-◌, ◌^◌, ◌==◌, ◌<◌, ◌↔◌, not, max, min, IsTrue};
     ghost use Rattle.rad_audit.specs.Files.{LacksFiles};
 
     /// Returns those of a run whose first file that is read has this number.
@@ -39,6 +39,20 @@ impl RunFiles {
             first: next,
             last: file - 1,
         })
+    }
+
+    /// Whether the file of this number comes again, or too late.
+    pub fn has_passed(&self, file: u64) -> bool
+        ensures { IsTrue result ↔ (file < self.now.next) }
+    {
+        file < self.next
+    }
+
+    /// Whether no file behind the one of this number was read, and this one was.
+    pub fn end_with(&self, file: u64) -> bool
+        ensures { result ≡ (self.now.next == min (file + 1) (2 ^ 64 - 1)) }
+    {
+        self.next == file.saturating_add(1)
     }
 
     /// Whether the run has a file before the first one that was read.

@@ -2,7 +2,6 @@
 
 ghost use Rattle.std.specs.Prelude.{◌≡◌};
 
-use crate::runs::Run;
 use std::alloc::{AllocError, Global};
 
 /// A sum that somebody kept.
@@ -12,7 +11,7 @@ pub struct KeptSum<'a> {
     pub word: &'a str,
     /// The name of its run.
     pub run: u64,
-    /// The number of the file of the run before, between or behind whose lines it stands.
+    /// The number of the file of the run that has a line of this sum, or whose first line is behind such a line.
     pub file: u64,
     pub sum: [u8; 32],
     /// Whether it was found there.
@@ -84,16 +83,6 @@ impl<'a> KeptSums<'a> {
         ensures { result.now ≡ self.now.sums.items }
     {
         self.sums.as_slice()
-    }
-
-    /// Takes the sum that the chain of a run has now, if it has a chain.
-    pub fn see_run(&mut self, run: &Run) {
-        if self.sums.is_empty() {
-            return;
-        }
-        if let Some(sum) = run.chain.sum() {
-            self.see(run.run, run.chain.file(), sum);
-        }
     }
 
     /// Takes a sum that a run has in this file.

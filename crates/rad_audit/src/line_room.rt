@@ -1,6 +1,5 @@
 //! Reading the lines of a file into a room of fixed size.
 
-use crate::read_file::FileSoFar;
 use ledger_lines::MOST_LINE_OCTETS;
 use memchr::memchr;
 use std::alloc::{AllocError, Global};
@@ -42,12 +41,12 @@ impl LineRoom {
         self.octets.as_slice()
     }
 
-    /// Reads the next line of a file, which takes its octets. Of one that is too long, it keeps the front alone.
+    /// Reads the next line of a file. Of one that is too long, it keeps the front alone.
     ///
     /// # Errors
     ///
     /// The reader's own error, or `OutOfMemory` if memory is refused.
-    pub fn read<R: BufRead>(&mut self, reader: &mut R, file: &mut FileSoFar) -> Result<Piece> {
+    pub fn read<R: BufRead>(&mut self, reader: &mut R) -> Result<Piece> {
         self.octets.clear();
         for _ in 0..u64::MAX {
             let buffer = match reader.fill_buf() {
@@ -59,7 +58,6 @@ impl LineRoom {
             let count = end.unwrap_or(buffer.len());
             self.keep(&buffer[..count])?;
             if end.is_some() {
-                file.take(&buffer[..=count]);
                 reader.consume(count + 1);
                 return Ok(if self.octets.len() <= MOST_LINE_OCTETS {
                     Piece::Whole
@@ -70,7 +68,6 @@ impl LineRoom {
             if count == 0 {
                 break;
             }
-            file.take(&buffer[..count]);
             reader.consume(count);
         }
         Ok(if self.octets.is_empty() {

@@ -1,8 +1,5 @@
 //! The file of another run that a run names.
 
-ghost use Rattle.std.specs.Prelude.{◌≡◌, ◌↔◌, IsTrue};
-
-use crate::read_file::ReadFile;
 use crate::shown::Word;
 use ledger_lines::FileBefore;
 use memchr::memrchr;
@@ -14,22 +11,19 @@ use std::str;
 pub struct NamedFile {
     /// Its name in the folder.
     name: Word,
-    /// How many octets it had.
-    octets: u64,
-    /// Their SHA-256.
-    sum: [u8; 32],
+    /// The sum of its last whole line, if that has one.
+    sum: Option<[u8; 32]>,
 }
 
 /// The run of a file, and its number in it, as its name has them.
 #[derive(Clone, Copy)]
-struct NameParts {
-    run: u64,
-    number: u64,
+pub struct NameParts {
+    pub run: u64,
+    pub number: u64,
 }
 
 impl NamedFile {
-    ghost use Rattle.std.specs.Prelude.{◌≡◌, ◌↔◌, IsTrue, IfOk, string_bytes};
-    ghost use Rattle.rad_audit.specs.ReadFiles.{HasContents};
+    ghost use Rattle.std.specs.Prelude.{◌≡◌, IfOk, string_bytes};
 
     /// Keeps what a run names.
     ///
@@ -37,12 +31,11 @@ impl NamedFile {
     ///
     /// `AllocError` if memory is refused.
     pub fn new(alloc: Global, before: &FileBefore<'_>) -> Result<NamedFile, AllocError>
-        ensures { IfOk result (λ named. (string_bytes named.name.0 ≡ before.now.name.now) × (named.octets ≡ before.now.octets) × (named.sum ≡ before.now.sha256)) }
+        ensures { IfOk result (λ named. (string_bytes named.name.0 ≡ before.now.name.now) × (named.sum ≡ before.now.sum)) }
     {
         Ok(NamedFile {
             name: Word::new(alloc, before.name)?,
-            octets: before.octets,
-            sum: before.sha256,
+            sum: before.sum,
         })
     }
 
@@ -53,34 +46,21 @@ impl NamedFile {
         self.name.as_str()
     }
 
-    /// Returns its run, if its name has one.
-    pub fn run(&self) -> Option<u64> {
-        Some(parts_of(self.name.as_str())?.run)
-    }
-
-    /// Whether this file of that run is it.
-    pub fn is(&self, file: &ReadFile) -> bool {
-        match parts_of(self.name.as_str()) {
-            Some(parts) => parts.number == file.number && self.has(file),
-            None => false,
-        }
-    }
-
-    fn has(&self, file: &ReadFile) -> bool
-        ensures { IsTrue result ↔ HasContents self.now file.now }
+    /// Returns the sum of its last whole line, if the run names it.
+    pub fn sum(&self) -> Option<[u8; 32]>
+        ensures { result ≡ self.now.sum }
     {
-        if self.octets != file.octets {
-            return false;
-        }
-        match file.sum {
-            Some(sum) => self.sum == sum,
-            None => true,
-        }
+        self.sum
+    }
+
+    /// Returns its run and its number, if its name has them.
+    pub fn parts(&self) -> Option<NameParts> {
+        parts_of(self.name.as_str())
     }
 }
 
 /// Returns the run and the number of a file of this name: sixteen digits, a dash, and what stands behind the last dash.
-fn parts_of(name: &str) -> Option<NameParts> {
+pub fn parts_of(name: &str) -> Option<NameParts> {
     let stem = name.as_bytes().strip_suffix(b".jsonl")?;
     let dash = memrchr(b'-', stem)?;
     let (front, digits) = (&stem[..dash], &stem[dash + 1..]);

@@ -2,7 +2,7 @@
 
 ghost use Rattle.std.specs.Prelude.{◌≡◌, [], if◌then◌else◌, IfErr};
 ghost use Rattle.rad_audit.specs.declared.faults.Fault.TheVariants.{Output};
-ghost use Rattle.rad_audit.specs.Statuses.{is_contradicted as the_is_contradicted, is_missing as the_is_missing, is_open as the_is_open, is_unasked as the_is_unasked};
+ghost use Rattle.rad_audit.specs.Statuses.{is_contradicted as the_is_contradicted, is_covered as the_is_covered, is_missing as the_is_missing, is_open as the_is_open, is_unasked as the_is_unasked};
 
 use crate::faults::{Fault, written};
 use crate::named_file::NamedFile;
@@ -43,6 +43,8 @@ pub enum Finding<'a> {
     Gap(LinePlace<'a>, LaneName<'a>, Gap),
     /// Before a line files of this run are missing: those of these numbers.
     Files(LinePlace<'a>, u64, Gap),
+    /// This run begins in a file behind another one. That is no fault.
+    Second(LinePlace<'a>, u64),
     /// What a lane has.
     Lane(LaneCounts<'a>),
     /// Why a lane is only a part of what its run had, or of what can be judged.
@@ -57,6 +59,8 @@ pub enum Finding<'a> {
     Hidden(u64, u64),
     /// This run names this file of another run, which was not read.
     Before(u64, &'a NamedFile),
+    /// This run names no other run, though one is before it.
+    Untied(u64),
     /// The sum that this word names was not found. Somebody kept it.
     Sum(&'a str),
 }
@@ -88,6 +92,8 @@ pub struct LaneCounts<'a> {
     pub entries: u64,
     /// How many of these, and of the lines of requests that were left, were not judged, or not all of them.
     pub not_judged: u64,
+    /// Whether lines that are left out may be all that is missing.
+    pub covered: bool,
     pub verdict: Verdict,
 }
 
@@ -103,7 +109,7 @@ pub struct Asked {
     /// These, and what is judged without a sum, the counts of the end, the secret of a home server or of a client, or a line that is
     /// left out.
     pub partial: bool,
-    /// All runs before the last one, which are a fault if they are missing.
+    /// All runs before the last one, which are a fault if they are missing, and each of them named by the next one.
     pub all: bool,
 }
 
@@ -122,7 +128,7 @@ pub struct Findings {
     pub part: bool,
     /// Whether no lane was found.
     pub nothing: bool,
-    /// Whether a run is missing that another one names, if all are asked for.
+    /// Whether a run is missing that another one names, or not named, if all are asked for.
     pub run: bool,
     /// Whether a lane is open.
     pub unended: bool,
@@ -152,18 +158,19 @@ impl Findings {
                 wrong: true,
                 ..self
             },
-            Finding::Gap(..) => Findings { gap: true, ..self },
             Finding::Files(..) => Findings { file: true, ..self },
             Finding::Lane(counts) => self.with_lane(asked, counts),
             Finding::Hidden(..) => Findings {
                 part: self.part || !asked.partial,
                 ..self
             },
-            Finding::Before(..) => Findings {
+            Finding::Before(..) | Finding::Untied(_) => Findings {
                 run: self.run || asked.all,
                 ..self
             },
             Finding::Torn(_)
+            | Finding::Gap(..)
+            | Finding::Second(..)
             | Finding::Part(_)
             | Finding::Fates(..)
             | Finding::Ranges(_)
@@ -176,7 +183,7 @@ impl Findings {
     {
         Findings {
             contradicted: self.contradicted || is_contradicted(counts.verdict),
-            gap: self.gap || is_missing(counts.verdict),
+            gap: self.gap || (is_missing(counts.verdict) && !(asked.partial && counts.covered)),
             part: self.part || is_unasked(asked, counts),
             nothing: false,
             unended: self.unended || is_open(counts.verdict),
@@ -237,6 +244,7 @@ impl<'a> LaneCounts<'a> {
         ensures counts { (result.first ≡ lane.now.tally.first) × (result.entries ≡ lane.now.tally.entries) × (result.not_judged ≡ lane.now.not_judged) }
         ensures late { result.late ≡ (not (run.now.files.first == 0) || not (lane.now.tally.first == 0)) }
         ensures bare { result.bare ≡ run.now.chain.bare }
+        ensures covered { result.covered ≡ the_is_covered lane.now }
         ensures uncounted { result.uncounted ≡ (run.now.ended && not (is_some lane.now.account.told)) }
         ensures verdict { (serials : List ℕ) (numbers : List ℕ) → Counts lane.now.tally serials → Keeps lane.now.account.numbers numbers → JudgesLane lane.now.tally lane.now.account lane.now.ending (IsTrue (result.late || (result.bare || (result.uncounted || not (lane.now.not_judged == 0))))) serials numbers result.verdict }
     {
@@ -252,6 +260,7 @@ impl<'a> LaneCounts<'a> {
             uncounted,
             entries: lane.tally.entries(),
             not_judged: lane.not_judged,
+            covered: is_covered(lane),
             verdict: lane_verdict(&lane.tally, &lane.account, &lane.ending, part),
         }
     }
@@ -366,6 +375,23 @@ fn print_row<W: Write>(rows: &mut W, row: Option<Row<'_>>) -> Result<(), Fault>
     match row {
         Some(row) => written(writeln!(rows, "{row}")),
         None => Ok(()),
+    }
+}
+
+/// Whether lines of a lane that are left out may be all that is missing of it.
+fn is_covered(lane: &Lane) -> bool
+    ensures { result ≡ the_is_covered lane.now }
+{
+    let missing = lane.tally.missing();
+    if missing != 0 {
+        return missing <= lane.hidden.entries;
+    }
+    match lane.account.told() {
+        Some(told) => {
+            lane.hidden.left != 0
+                && told.left.saturating_sub(lane.account.left()) <= lane.hidden.left
+        }
+        None => false,
     }
 }
 
@@ -489,6 +515,7 @@ impl fmt::Display for Finding<'_> {
             Finding::Files(place, run, Gap { first, last }) => {
                 write!(f, "{place}: run {run:016x} files {first} to {last} missing")
             }
+            Finding::Second(place, run) => write!(f, "{place}: run {run:016x} behind another run"),
             Finding::Lane(counts) => {
                 let name = counts.name;
                 write!(f, "{name} {counts}")
@@ -519,6 +546,7 @@ impl fmt::Display for Finding<'_> {
                 let name = Shown(file.name());
                 write!(f, "run {run:016x} before {name} missing")
             }
+            Finding::Untied(run) => write!(f, "run {run:016x} untied"),
             Finding::Sum(word) => {
                 let word = Shown(word);
                 let reason = Reason::WrongSum;

@@ -2,12 +2,12 @@
 
 use crate::chains::RunChain;
 use crate::files::RunFiles;
+use crate::hidden::HiddenLines;
 use crate::named_file::NamedFile;
-use crate::read_file::{ReadFile, newer_of};
 use crate::shown::Word;
 use crate::times::Times;
-use ledger_lines::{Begin, LaneStart};
-use ledger_rules::{Account, Ending, Gap, Tally};
+use ledger_lines::{Begin, HiddenKind, LaneStart};
+use ledger_rules::{Account, Ending, Tally};
 use std::alloc::{AllocError, Global};
 use std::collections::BTreeMap;
 
@@ -28,6 +28,10 @@ pub struct Lane {
     /// How many of these lines were not judged, or not all of them, because the configuration does not have the home server or
     /// the client.
     pub not_judged: u64,
+    /// Its lines that are left out.
+    pub hidden: HiddenLines,
+    /// How many entries are `WrongSent`.
+    pub wrong_sent: u64,
 }
 
 /// A run, with its lanes.
@@ -37,8 +41,6 @@ pub struct Run {
     pub run: u64,
     /// Its files that were read.
     pub files: RunFiles,
-    /// The one of them that has the greatest number.
-    pub newest: Option<ReadFile>,
     /// The file of another run that its first line names.
     pub before: Option<NamedFile>,
     pub lanes: Vec<Lane>,
@@ -70,28 +72,18 @@ impl Runs {
         self.runs.as_slice()
     }
 
-    /// Adds the run that the first line of a file names, if it is not known yet. Returns which of its files are missing
-    /// before this one, if any are.
+    /// Adds the run that the first line of a file names.
     ///
     /// # Errors
     ///
     /// `AllocError` if memory is refused. The run then has no lanes.
-    pub fn begin(&mut self, alloc: Global, begin: &Begin<'_>) -> Result<Option<Gap>, AllocError> {
-        if let Some(run) = self.run(begin.run) {
-            return Ok(run.files.take(begin.file));
-        }
-        self.add(alloc, begin)?;
-        Ok(None)
-    }
-
-    fn add(&mut self, alloc: Global, begin: &Begin<'_>) -> Result<(), AllocError> {
+    pub fn add(&mut self, alloc: Global, begin: &Begin<'_>) -> Result<(), AllocError> {
         self.places.insert(begin.run, self.runs.len())?;
         let lanes = lanes_of(alloc, begin)?;
         let before = before_of(alloc, begin)?;
         self.runs.push(Run {
             run: begin.run,
             files: RunFiles::from(begin.file),
-            newest: None,
             before,
             lanes,
             chain: RunChain::new(),
@@ -113,26 +105,21 @@ impl Runs {
         self.runs.get_mut(self.last)
     }
 
-    /// Keeps a file that was read to its end, if it is of a run.
-    pub fn keep_file(&mut self, file: ReadFile) {
-        let Some(run) = self.run(file.run) else {
-            return;
-        };
-        let newest = newer_of(run.newest, file);
-        run.newest = Some(newest);
-    }
-
-    /// Whether a file that a run names was read.
+    /// Whether the file that a run names is the last one of its run that was read.
     pub fn has(&self, named: &NamedFile) -> bool {
-        match self.newest_of(named) {
-            Some(newest) => named.is(&newest),
+        let Some(parts) = named.parts() else {
+            return false;
+        };
+        match self.of(parts.run) {
+            Some(run) => run.files.end_with(parts.number),
             None => false,
         }
     }
 
-    fn newest_of(&self, named: &NamedFile) -> Option<ReadFile> {
-        let place = self.places.get(&named.run()?)?;
-        self.runs.get(*place)?.newest
+    /// Returns the run of this name, if there is one, and stays at the one that was last asked for.
+    pub fn of(&self, run: u64) -> Option<&Run> {
+        let place = self.places.get(&run)?;
+        self.runs.get(*place)
     }
 
     /// Returns the run that was last asked for, if there is one.
@@ -144,6 +131,37 @@ impl Runs {
     pub fn lane(&mut self, run: u64, number: u16) -> Option<&mut Lane> {
         let run = self.run(run)?;
         run.lanes.iter_mut().find(|lane| lane.number == number)
+    }
+}
+
+impl Run {
+    /// Whether it should name a file of another run, if there is one, and does not.
+    pub fn is_untied(&self) -> bool {
+        self.before.is_none() && !self.files.begin_late()
+    }
+
+    /// Counts a line that is left out for its lane, if its lane and its kind are told.
+    pub fn hide(&mut self, lane: Option<u16>, kind: Option<HiddenKind>) {
+        let (Some(number), Some(kind)) = (lane, kind) else {
+            return;
+        };
+        if let Some(lane) = self.lanes.iter_mut().find(|lane| lane.number == number) {
+            lane.hidden.take(kind);
+        }
+    }
+
+    /// Whether the lanes that a later file names are those of the run.
+    pub fn goes_on(&self, starts: &[LaneStart<'_>]) -> bool {
+        if starts.len() != self.lanes.len() {
+            return false;
+        }
+        for place in 0..starts.len() {
+            let (start, lane) = (&starts[place], &self.lanes[place]);
+            if start.lane != lane.number || start.home != lane.home.as_str() {
+                return false;
+            }
+        }
+        true
     }
 }
 
@@ -171,5 +189,7 @@ fn lane_of(alloc: Global, start: &LaneStart<'_>) -> Result<Lane, AllocError> {
         ending: Ending::new(),
         times: Times::new(),
         not_judged: 0,
+        hidden: HiddenLines::new(),
+        wrong_sent: 0,
     })
 }

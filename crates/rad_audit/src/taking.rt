@@ -1,13 +1,14 @@
 //! What becomes of an entry, and of a request that was left.
 
-ghost use Rattle.std.specs.Prelude.{◌≡◌, ◌<◌, ◌^◌, false, IfErr, IfOk, IsTrue, None, option_copied};
+ghost use Rattle.std.specs.Prelude.{◌≡◌, ◌<◌, ◌^◌, false, IfErr, IfOk, IsTrue, MatchOption, None, option_copied};
 ghost use Rattle.ledger_rules.specs.Judging.{IsWrong};
 ghost use Rattle.ledger_rules.specs.Leaving.{IsWronglyLeft};
 ghost use Rattle.ledger_rules.specs.Numbers.{IsAsBefore, IsKnown};
-ghost use Rattle.rad_audit.specs.Taking.{Leaves, Takes};
+ghost use Rattle.ledger_rules.specs.declared.reason.Reason.TheVariants.{UnknownRecord};
+ghost use Rattle.rad_audit.specs.Taking.{LacksRecord, Leaves, Takes};
 
 use crate::wording::{LineWords, are_words_of};
-use ledger_rules::{Account, Entry, Gap, Left, Reason, Tally, judge, judge_left};
+use ledger_rules::{Account, Entry, Gap, Left, Reason, RecordCount, Tally, judge, judge_left};
 use rad_auth::Secret;
 use std::alloc::{AllocError, Global};
 
@@ -99,6 +100,17 @@ pub fn take_left(
         Ok(None)
     } else {
         Ok(Some(Reason::RecordTwice))
+    }
+}
+
+/// Returns what is wrong with a count of what became of a response, of a lane that its run names, if anything is.
+pub fn judge_count(count: &RecordCount<'_>, tally: &Tally, account: &Account) -> Option<Reason>
+    ensures { MatchOption result (¬ LacksRecord tally.now account.now count.now.number) (λ reason. (reason ≡ UnknownRecord) × LacksRecord tally.now account.now count.now.number) }
+{
+    if account.lacks(count.number) && tally.entries() == tally.next() {
+        Some(Reason::UnknownRecord)
+    } else {
+        None
     }
 }
 

@@ -2,18 +2,11 @@
 use Rattle.std.proofs.Common.{◌≡◌, ◌≤◌, ◌+◌, ◌*◌, ℕ, List, [], ◌∷◌, ◌++◌, Option, refl, ap, ◌∙◌, arith, inl, inr, subst, sym}
 use Rattle.std.proofs.Math.Nat.{suc-mul}
 use Rattle.rad_desk.specs.Traffic.{Event, arrived, departed, told, drew, noted, logged}
-use Rattle.rad_desk.specs.Calls.{Passes, IsQuiet, IsALook, arrivals, departures, AreAtMost}
+use Rattle.rad_desk.specs.Calls.{Passes, IsALook, arrivals, departures, AreAtMost}
 
 pub logged_append : (log : Option (List Event)) (first then : List Event) → logged (logged log first) then ≡ logged log (first ++ then)
 logged_append log [] then = refl
 logged_append log (event ∷ first) then = logged_append (noted log event) first then
-
-pub quiet_append : (first then : List Event) → IsQuiet first → IsQuiet then → IsQuiet (first ++ then)
-quiet_append [] then a b = b
-quiet_append (arrived socket peer octets ∷ first) then a b = quiet_append first then a b
-quiet_append (departed socket peer octets delivery ∷ first) then a b = absurd a
-quiet_append (told moment ∷ first) then a b = quiet_append first then a b
-quiet_append (drew octets ∷ first) then a b = quiet_append first then a b
 
 -- Nothing passed.
 pub passes_none : (Right : List Event → Type 0) (old new : Option (List Event)) → Right [] → new ≡ old → Passes Right old new
@@ -30,9 +23,6 @@ passes_join P Q R join old mid new a b = record {
 -- What is right in one sense is so in another.
 pub passes_widen : (P Q : List Event → Type 0) → ((events : List Event) → P events → Q events) → (old new : Option (List Event)) → Passes P old new → Passes Q old new
 passes_widen P Q wider old new a = record { events = a.events; passed = a.passed; right = wider a.events a.right }
-
-pub quiet_join : (old mid new : Option (List Event)) → Passes IsQuiet old mid → Passes IsQuiet mid new → Passes IsQuiet old new
-quiet_join = passes_join IsQuiet IsQuiet IsQuiet quiet_append
 
 -- One event passed, and more.
 pub passes_after : (P Q : List Event → Type 0) (event : Event) → ((then : List Event) → P then → Q (event ∷ then)) → (old mid new : Option (List Event)) → mid ≡ noted old event → Passes P mid new → Passes Q old new

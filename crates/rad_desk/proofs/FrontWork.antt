@@ -1,6 +1,6 @@
 -- The work in front, put together from its parts.
 use Rattle.std.proofs.Common.{◌≡◌, ◌<◌, ◌≤◌, ◌+◌, ℕ, zero, suc, List, [], ◌∷◌, ◌++◌, length, get_or, set, Option, refl, sym, ap, ◌∙◌, subst, arith, append_assoc, inl, inr, eq-eqb, ne_eqb}
-use Rattle.std.specs.Prelude.{All, ◌≢◌, ◌⊎◌, map as each}
+use Rattle.std.specs.Prelude.{All, ◌≢◌, ◌⊎◌, map as each, Bool, true, false, Result, Ok, Err}
 use Rattle.std.specs.List.{flat_map}
 use Rattle.std.proofs.lemmas.List.{append-nil}
 use Rattle.std.proofs.lemmas.List.Concat.{flat_map-append}
@@ -9,16 +9,25 @@ use Rattle.rad_config.specs.declared.reading.address.Endpoint.{Endpoint}
 use Rattle.rad_realms.specs.declared.checking.Incoming.{Incoming}
 use Rattle.rad_realms.specs.Configuration.{Configuration}
 use Rattle.rad_realms.specs.Incoming.{Takes}
+use Rattle.rad_realms.specs.Checking.{Drops}
+use Rattle.rad_realms.specs.declared.checking.Dropped.{Dropped}
+use Rattle.rad_lane.specs.declared.accepting.Refusal.{Refusal}
+use Rattle.rad_lane.specs.declared.accepting.Taken.TheVariants.{New, Waiting, Again}
+use Rattle.rad_lane.specs.Datagrams.{Datagrams}
+use Rattle.rad_desk.specs.declared.handling.Handled.{Handled}
+use Rattle.rad_desk.specs.declared.handling.Handled.TheVariants.{Taken, Answered}
+use Rattle.rad_desk.specs.Handling.{Handles, Outcome}
 use Rattle.rad_lane.specs.declared.outgoing.Outgoing.{Outgoing}
 use Rattle.locked_lanes.specs.declared.inlet.Inlet.{Inlet}
 use Rattle.rad_desk.specs.declared.wire.Delivery.{Delivery}
 use Rattle.locked_lanes.specs.Fates.{AnswersARecord}
 use Rattle.locked_lanes.specs.Inlet.{taken, SameInlet}
 use Rattle.rad_desk.specs.Traffic.{Event, arrived, departed, told, endpoint, noted, logged}
-use Rattle.rad_desk.specs.Calls.{Passes, IsQuiet, IsALook, IsSent, AreAtMost}
-use Rattle.rad_desk.specs.Once.{IsAnswerTo, IsUnanswered, SendsBack, SendsAnAnswer, HandsOne, Hands, Part, quiet, back, given, events_of, IsRight, given_in, given_by, EachGave, WorksInFront}
+use Rattle.rad_desk.specs.Calls.{Passes, IsSent, AreAtMost}
+use Rattle.rad_desk.specs.Once.{Replies, IsSilent, IsAnsweredWith, HandsOne, Hands, Part, dropped, silent, back, given, events_of, outcomes_of, IsReceipt, IsRight, TakesIn, IsLeftUntaken, TakesInOnce, Serves, IsStopped, ServesOnce, given_in, given_by, EachGave, WorksInParts}
 use Rattle.rad_desk.specs.HandOver.{handed_at, response_of, handings_of}
-use Rattle.rad_desk.proofs.CallsJoined.{logged_append, passes_none, passes_widen, passes_after, most_none, most_look}
+use Rattle.rad_desk.proofs.CallsJoined.{logged_append, passes_none, passes_one, passes_widen, passes_after, most_none}
+use Rattle.rad_desk.proofs.Responses.{again_answers, status_answers}
 
 -- Inlets of the same rings.
 same_refl : (i : Inlet) → SameInlet i i
@@ -96,15 +105,6 @@ gave_still first zero (i ∷ rest) other now within same took =
 gave_still first (suc place) (i ∷ rest) other now within same took =
     (same_refl i, sym (append-nil (taken i)), i.once, gave_still (first + 1) place rest other now (omega (arith, within)) same took)
 
--- What is not answered sends nothing.
-look_quiet : (events : List Event) → IsALook events → IsQuiet events
-look_quiet events (inl none) = subst IsQuiet (sym none) tt
-look_quiet events (inr (moment, is)) = subst IsQuiet (sym is) tt
-
-unanswered_quiet : (events : List Event) → IsUnanswered events → IsQuiet events
-unanswered_quiet events (inl none) = subst IsQuiet (sym none) tt
-unanswered_quiet events (inr (socket, from, question, later, is, look)) = subst IsQuiet (sym is) (look_quiet later look)
-
 -- What is handed over first, and then.
 handings_append : (since : Option (List Event)) (first then : List Part) → handings_of since (first ++ then) ≡ handings_of since first ++ handings_of (logged since (flat_map events_of first)) then
 handings_append since [] then = refl
@@ -117,7 +117,7 @@ handings_append since (part ∷ first) then =
     ∙ sym (append_assoc (each (handed_at since) (response_of part)) (handings_of amid first) (handings_of (logged since (events_of part ++ flat_map events_of first)) then))
 
 module _ (config : Configuration) where
-  pub works_none : (inlets : List Inlet) → WorksInFront config inlets inlets []
+  pub works_none : (inlets : List Inlet) → WorksInParts config inlets inlets []
   works_none inlets = record {
     parts = [];
     passed = refl;
@@ -130,7 +130,7 @@ module _ (config : Configuration) where
   handings_none inlets since = refl
 
   -- A part in which no inlet gave anything.
-  works_part : (part : Part) (inlets : List Inlet) (events : List Event) → events ≡ events_of part → IsRight config (length inlets) part → ((at : ℕ) → given_in at part ≡ []) → WorksInFront config inlets inlets events
+  works_part : (part : Part) (inlets : List Inlet) (events : List Event) → events ≡ events_of part → IsRight config (length inlets) part → ((at : ℕ) → given_in at part ≡ []) → WorksInParts config inlets inlets events
   works_part part inlets events is right none = record {
     parts = part ∷ [];
     passed = is ∙ sym (append-nil (events_of part));
@@ -139,7 +139,7 @@ module _ (config : Configuration) where
   }
 
   -- Two stretches of work.
-  pub works_append : (old mid new : List Inlet) (first then : List Event) → WorksInFront config old mid first → WorksInFront config mid new then → WorksInFront config old new (first ++ then)
+  pub works_append : (old mid new : List Inlet) (first then : List Event) → WorksInParts config old mid first → WorksInParts config mid new then → WorksInParts config old new (first ++ then)
   works_append old mid new first then a b = record {
     parts = a.parts ++ b.parts;
     passed = ap (λ l. l ++ then) a.passed ∙ ap (λ l. flat_map events_of a.parts ++ l) b.passed ∙ sym (flat_map-append events_of a.parts b.parts);
@@ -149,24 +149,41 @@ module _ (config : Configuration) where
     gave = gave_append a.parts b.parts 0 old mid new a.gave b.gave;
   }
 
-  pub handings_join : (old mid new : List Inlet) (since : Option (List Event)) (first then : List Event) (a : WorksInFront config old mid first) (b : WorksInFront config mid new then) → handings_of since (works_append old mid new first then a b).parts ≡ handings_of since a.parts ++ handings_of (logged since first) b.parts
+  pub handings_join : (old mid new : List Inlet) (since : Option (List Event)) (first then : List Event) (a : WorksInParts config old mid first) (b : WorksInParts config mid new then) → handings_of since (works_append old mid new first then a b).parts ≡ handings_of since a.parts ++ handings_of (logged since first) b.parts
   unfolding works_append
   handings_join old mid new since first then a b =
       handings_append since a.parts b.parts ∙ ap (λ events. handings_of since a.parts ++ handings_of (logged since events) b.parts) (sym a.passed)
 
-  -- What a turn takes in, whatever the inlets are.
-  pub works_taken : (inlets : List Inlet) (events : List Event) → SendsBack config events → WorksInFront config inlets inlets events
-  works_taken inlets events (inl none) = works_part (quiet events) inlets events refl (unanswered_quiet events none) (λ at. refl)
-  works_taken inlets events (inr goes) =
-      works_part (back goes.socket goes.from goes.question goes.moment goes.octets goes.delivery) inlets events goes.is goes.answers (λ at. refl)
+  -- A datagram that came is given by no inlet, and no response goes with it.
+  received_gives : (at : ℕ) (part : Part) → IsReceipt part → given_in at part ≡ []
+  received_gives at (dropped socket from question reason) kind = refl
+  received_gives at (silent socket from question outcome) kind = refl
+  received_gives at (back socket from question outcome octets delivery) kind = refl
+  received_gives at (given place outgoing delivery) kind = absurd kind
 
-  pub handings_taken : (inlets : List Inlet) (since : Option (List Event)) (events : List Event) (sends : SendsBack config events) → handings_of since (works_taken inlets events sends).parts ≡ []
-  unfolding works_taken works_part
-  handings_taken inlets since events (inl none) = refl
-  handings_taken inlets since events (inr goes) = refl
+  received_handings : (since : Option (List Event)) (part : Part) → IsReceipt part → handings_of since (part ∷ []) ≡ []
+  received_handings since (dropped socket from question reason) kind = refl
+  received_handings since (silent socket from question outcome) kind = refl
+  received_handings since (back socket from question outcome octets delivery) kind = refl
+  received_handings since (given place outgoing delivery) kind = absurd kind
+
+  -- What a turn takes in, whatever the inlets are.
+  pub works_taken : (inlets : List Inlet) (before after : List Outcome) (events : List Event) → TakesIn config before after events → WorksInParts config inlets inlets events
+  works_taken inlets before after events (inl none) = subst (WorksInParts config inlets inlets) (sym none.0) (works_none inlets)
+  works_taken inlets before after events (inr (part, kind, is, right, added)) = works_part part inlets events is (right (length inlets)) (λ at. received_gives at part kind)
+
+  pub handings_taken : (inlets : List Inlet) (since : Option (List Event)) (before after : List Outcome) (events : List Event) (takes : TakesIn config before after events) → handings_of since (works_taken inlets before after events takes).parts ≡ []
+  unfolding works_taken works_part works_none
+  handings_taken inlets since before after events (inl none) = refl
+  handings_taken inlets since before after events (inr (part, kind, is, right, added)) = received_handings since part kind
+
+  pub outcomes_taken : (inlets : List Inlet) (before after : List Outcome) (events : List Event) (takes : TakesIn config before after events) → after ≡ before ++ flat_map outcomes_of (works_taken inlets before after events takes).parts
+  unfolding works_taken works_part works_none
+  outcomes_taken inlets before after events (inl none) = none.1 ∙ sym (append-nil before)
+  outcomes_taken inlets before after events (inr (part, kind, is, right, added)) = added ∙ ap (λ l. before ++ l) (sym (append-nil (outcomes_of part)))
 
   -- What a look at the inlet at a place does.
-  pub works_handed_by : (inlets : List Inlet) (place : ℕ) (other now : Inlet) → place < length inlets → (events : List Event) → SameInlet (get_or inlets place other) now → ((taken now ≡ taken (get_or inlets place other)) × (events ≡ [])) ⊎ HandsOne (get_or inlets place other) now events → WorksInFront config inlets (set inlets place now) events
+  pub works_handed_by : (inlets : List Inlet) (place : ℕ) (other now : Inlet) → place < length inlets → (events : List Event) → SameInlet (get_or inlets place other) now → ((taken now ≡ taken (get_or inlets place other)) × (events ≡ [])) ⊎ HandsOne (get_or inlets place other) now events → WorksInParts config inlets (set inlets place now) events
   works_handed_by inlets place other now within events same (inl none) = record {
     parts = [];
     passed = none.1;
@@ -190,32 +207,130 @@ module _ (config : Configuration) where
   unfolding works_handed_by
   handings_one inlets place other now within since events same one = refl
 
-  -- A datagram came and was taken, and it was answered or not.
-  goes_back : (socket : ℕ) (from : Endpoint) (question : List ℕ) (incoming : Incoming) → Takes config from.address from.port question incoming → (then : List Event) → SendsAnAnswer socket from incoming then → SendsBack config (arrived socket from question ∷ then)
-  goes_back socket from question incoming takes then (inl look) = inl (inr (socket, from, question, then, refl, look))
-  goes_back socket from question incoming takes then (inr goes) = inr (record {
-    socket = socket;
-    from = from;
-    question = question;
-    moment = goes.moment;
-    octets = goes.octets;
-    delivery = goes.delivery;
-    is = ap (λ l. arrived socket from question ∷ l) goes.is;
-    answers = record { incoming = incoming; right = takes; answers = goes.answers };
-  })
+  pub outcomes_none : (inlets : List Inlet) → flat_map outcomes_of (works_none inlets).parts ≡ []
+  unfolding works_none
+  outcomes_none inlets = refl
 
-  pub back_after : (socket : ℕ) (from : Endpoint) (question : List ℕ) (incoming : Incoming) → Takes config from.address from.port question incoming → (old mid new : Option (List Event)) → mid ≡ noted old (arrived socket from question) → Passes (SendsAnAnswer socket from incoming) mid new → Passes (SendsBack config) old new
-  back_after socket from question incoming takes =
-      passes_after (SendsAnAnswer socket from incoming) (SendsBack config) (arrived socket from question) (goes_back socket from question incoming takes)
+  pub outcomes_join : (old mid new : List Inlet) (first then : List Event) (a : WorksInParts config old mid first) (b : WorksInParts config mid new then) → flat_map outcomes_of (works_append old mid new first then a b).parts ≡ flat_map outcomes_of a.parts ++ flat_map outcomes_of b.parts
+  unfolding works_append
+  outcomes_join old mid new first then a b = flat_map-append outcomes_of a.parts b.parts
 
--- The moment was told, and an answer was sent.
-answered : (socket : ℕ) (from : Endpoint) (asked : Incoming) (moment : ℕ) (octets : List ℕ) → IsAnswerTo asked moment octets → (then : List Event) → IsSent socket from octets then → SendsAnAnswer socket from asked (told moment ∷ then)
-answered socket from asked moment octets answers then sent =
-    inr (record { moment = moment; octets = octets; delivery = sent.delivery; is = ap (λ l. told moment ∷ l) sent.is; answers = answers })
+  pub outcomes_handed : (inlets : List Inlet) (place : ℕ) (other now : Inlet) (within : place < length inlets) (events : List Event) (same : SameInlet (get_or inlets place other) now) (hands : ((taken now ≡ taken (get_or inlets place other)) × (events ≡ [])) ⊎ HandsOne (get_or inlets place other) now events) → flat_map outcomes_of (works_handed_by inlets place other now within events same hands).parts ≡ []
+  unfolding works_handed_by
+  outcomes_handed inlets place other now within events same (inl none) = refl
+  outcomes_handed inlets place other now within events same (inr one) = refl
 
-pub answer_after : (socket : ℕ) (from : Endpoint) (asked : Incoming) (moment : ℕ) (octets : List ℕ) → IsAnswerTo asked moment octets → (old mid new : Option (List Event)) → mid ≡ noted old (told moment) → Passes (IsSent socket from octets) mid new → Passes (SendsAnAnswer socket from asked) old new
-answer_after socket from asked moment octets answers =
-    passes_after (IsSent socket from octets) (SendsAnAnswer socket from asked) (told moment) (answered socket from asked moment octets answers)
+  -- A datagram came, passed the checks and was served.
+  serving : (socket : ℕ) (from : Endpoint) (question : List ℕ) (asked : Incoming) → Takes config from.address from.port question asked → (before after : List Outcome) (then : List Event) → Serves socket from asked before after then → TakesIn config before after (arrived socket from question ∷ then)
+  serving socket from question asked takes before after then serves = served serves.sends where
+    right : Takes config from.address from.port question serves.outcome.asked
+    right = subst (Takes config from.address from.port question) (sym serves.same) takes
+
+    served : (IsSilent serves.outcome × (serves.later ≡ [])) ⊎ ((octets : List ℕ) × IsAnsweredWith serves.outcome octets × IsSent socket from octets serves.later) → TakesIn config before after (arrived socket from question ∷ then)
+    served (inl nothing) = inr (
+      silent socket from question serves.outcome,
+      tt,
+      ap (λ l. arrived socket from question ∷ l) (serves.is ∙ ap (λ l. told serves.outcome.moment ∷ l) nothing.1),
+      (λ inlets. (right, nothing.0)),
+      serves.added,
+    )
+    served (inr (octets, answers, sent)) = inr (
+      back socket from question serves.outcome octets sent.delivery,
+      tt,
+      ap (λ l. arrived socket from question ∷ l) (serves.is ∙ ap (λ l. told serves.outcome.moment ∷ l) sent.is),
+      (λ inlets. (right, answers)),
+      serves.added,
+    )
+
+  stopping : (socket : ℕ) (from : Endpoint) (question : List ℕ) (asked : Incoming) → Takes config from.address from.port question asked → (before after : List Outcome) (then : List Event) → IsStopped asked before after then → IsLeftUntaken config (arrived socket from question ∷ then) × (after ≡ before)
+  stopping socket from question asked takes before after then stops = (
+    inr (
+      socket,
+      from,
+      question,
+      stops.0.request,
+      subst (Takes config from.address from.port question) stops.0.is takes,
+      ap (λ l. arrived socket from question ∷ l) stops.1,
+    ),
+    stops.2,
+  )
+
+  served_once : (goes : Bool) (socket : ℕ) (from : Endpoint) (question : List ℕ) (asked : Incoming) → Takes config from.address from.port question asked → (before after : List Outcome) (then : List Event) → ServesOnce goes socket from asked before after then → TakesInOnce goes config before after (arrived socket from question ∷ then)
+  served_once true = serving
+  served_once false = stopping
+
+  -- A datagram came, and it was served, or dropped, or none came.
+  pub taken_after : (goes : Bool) (socket : ℕ) (from : Endpoint) (question : List ℕ) (asked : Incoming) → Takes config from.address from.port question asked → (before after : List Outcome) (old mid new : Option (List Event)) → mid ≡ noted old (arrived socket from question) → Passes (ServesOnce goes socket from asked before after) mid new → Passes (TakesInOnce goes config before after) old new
+  taken_after goes socket from question asked takes before after =
+      passes_after (ServesOnce goes socket from asked before after) (TakesInOnce goes config before after) (arrived socket from question)
+      (served_once goes socket from question asked takes before after)
+
+  pub taken_dropped : (socket : ℕ) (from : Endpoint) (question : List ℕ) (reason : Dropped) → Drops config from.address question reason → (outcomes : List Outcome) (old new : Option (List Event)) → new ≡ noted old (arrived socket from question) → Passes (TakesIn config outcomes outcomes) old new
+  taken_dropped socket from question reason drops outcomes old new came =
+      passes_one (TakesIn config outcomes outcomes) (arrived socket from question) old new
+      (inr (dropped socket from question reason, tt, refl, (λ inlets. drops), sym (append-nil outcomes))) came
+
+  pub taken_none : (outcomes : List Outcome) (old new : Option (List Event)) → new ≡ old → Passes (TakesIn config outcomes outcomes) old new
+  taken_none outcomes old new = passes_none (TakesIn config outcomes outcomes) old new (inl (refl, refl))
+
+-- What was handled, and what was sent back for it.
+module _ (socket : ℕ) (from : Endpoint) (asked : Incoming) (moment lanes : ℕ) (d : Datagrams) (before : List Outcome) where
+  replied : (result : Result Handled Refusal) → Handles asked moment lanes result d → (then : List Event) → Replies socket from asked result d.after then → Serves socket from asked before (before ++ record { asked = asked; moment = moment; result = result } ∷ []) (told moment ∷ then)
+  replied (Ok Answered) handles then sent = record {
+    outcome = record { asked = asked; moment = moment; result = Ok Answered };
+    same = refl;
+    added = refl;
+    later = then;
+    is = refl;
+    sends = inr (d.after, record { answering = tt; answers = status_answers asked moment lanes d handles }, sent);
+  }
+  replied (Ok (Taken lane (New number))) handles then none = record {
+    outcome = record { asked = asked; moment = moment; result = Ok (Taken lane (New number)) };
+    same = refl;
+    added = refl;
+    later = then;
+    is = refl;
+    sends = inl (record { lanes = lanes; datagrams = d; handles = handles; nothing = tt }, none);
+  }
+  replied (Ok (Taken lane (Waiting number))) handles then none = record {
+    outcome = record { asked = asked; moment = moment; result = Ok (Taken lane (Waiting number)) };
+    same = refl;
+    added = refl;
+    later = then;
+    is = refl;
+    sends = inl (record { lanes = lanes; datagrams = d; handles = handles; nothing = tt }, none);
+  }
+  replied (Ok (Taken lane (Again number))) handles then (inl (fit, sent)) = record {
+    outcome = record { asked = asked; moment = moment; result = Ok (Taken lane (Again number)) };
+    same = refl;
+    added = refl;
+    later = then;
+    is = refl;
+    sends = inr (d.after, record { answering = tt; answers = again_answers asked moment lanes lane number d handles fit }, sent);
+  }
+  replied (Ok (Taken lane (Again number))) handles then (inr (unfit, none)) = record {
+    outcome = record { asked = asked; moment = moment; result = Ok (Taken lane (Again number)) };
+    same = refl;
+    added = refl;
+    later = then;
+    is = refl;
+    sends = inl (record { lanes = lanes; datagrams = d; handles = handles; nothing = unfit }, none);
+  }
+  replied (Err refusal) handles then none = record {
+    outcome = record { asked = asked; moment = moment; result = Err refusal };
+    same = refl;
+    added = refl;
+    later = then;
+    is = refl;
+    sends = inl (record { lanes = lanes; datagrams = d; handles = handles; nothing = tt }, none);
+  }
+
+  pub serves_once : (result : Result Handled Refusal) → Handles asked moment lanes result d → (after : List Outcome) → after ≡ before ++ record { asked = asked; moment = moment; result = result } ∷ [] → (octets : List ℕ) → octets ≡ d.after → (old mid new : Option (List Event)) → mid ≡ noted old (told moment) → Passes (Replies socket from asked result octets) mid new → Passes (Serves socket from asked before after) old new
+  serves_once result handles after added octets written old mid new is_told replies =
+      subst (λ l. Passes (Serves socket from asked before l) old new) (sym added)
+      (passes_after (Replies socket from asked result d.after) (Serves socket from asked before (before ++ record { asked = asked; moment = moment; result = result } ∷ [])) (told moment)
+      (replied result handles) old mid new is_told
+      (subst (λ l. Passes (Replies socket from asked result l) mid new) written replies))
 
 -- A look at an inlet that gave nothing, and at one that gave a response, which was sent.
 pub hands_none : (was is : Inlet) → SameInlet was is → taken is ≡ taken was → (old new : Option (List Event)) → new ≡ old → Passes (Hands was is) old new
@@ -235,23 +350,28 @@ hands_one was is outgoing octets same took answers response =
       }),
     ))
 
--- Nothing was sent to what came.
-pub unanswered : (socket : ℕ) (from : Endpoint) (asked : Incoming) (old new : Option (List Event)) → Passes IsALook old new → Passes (SendsAnAnswer socket from asked) old new
-unanswered socket from asked = passes_widen IsALook (SendsAnAnswer socket from asked) (λ events none. inl none)
-
-pub taken_quietly : (config : Configuration) (old new : Option (List Event)) → Passes IsUnanswered old new → Passes (SendsBack config) old new
-taken_quietly config = passes_widen IsUnanswered (SendsBack config) (λ events none. inl none)
-
 -- A turn receives once and sends back once, and a look at an inlet sends once.
-most_back : (config : Configuration) (events : List Event) → SendsBack config events → AreAtMost 1 1 events
-most_back config events (inl (inl none)) = subst (AreAtMost 1 1) (sym none) (most_none 1 1)
-most_back config events (inl (inr (socket, from, question, later, is, look))) =
-    let most = most_look 0 1 later look in
-    subst (AreAtMost 1 1) (sym is) (record { receives = omega (arith, most.receives); sends = most.sends })
-most_back config events (inr goes) = subst (AreAtMost 1 1) (sym goes.is) (record { receives = omega arith; sends = omega arith })
+most_received : (part : Part) → IsReceipt part → AreAtMost 1 1 (events_of part)
+most_received (dropped socket from question reason) kind = record { receives = omega arith; sends = omega arith }
+most_received (silent socket from question outcome) kind = record { receives = omega arith; sends = omega arith }
+most_received (back socket from question outcome octets delivery) kind = record { receives = omega arith; sends = omega arith }
+most_received (given place outgoing delivery) kind = absurd kind
 
-pub most_taken : (config : Configuration) (old new : Option (List Event)) → Passes (SendsBack config) old new → Passes (AreAtMost 1 1) old new
-most_taken config = passes_widen (SendsBack config) (AreAtMost 1 1) (most_back config)
+most_in : (config : Configuration) (before after : List Outcome) (events : List Event) → TakesIn config before after events → AreAtMost 1 1 events
+most_in config before after events (inl none) = subst (AreAtMost 1 1) (sym none.0) (most_none 1 1)
+most_in config before after events (inr (part, kind, is, right, added)) = subst (AreAtMost 1 1) (sym is) (most_received part kind)
+
+most_left : (config : Configuration) (events : List Event) → IsLeftUntaken config events → AreAtMost 1 1 events
+most_left config events (inl none) = subst (AreAtMost 1 1) (sym none) (most_none 1 1)
+most_left config events (inr (socket, from, question, request, takes, is)) =
+    subst (AreAtMost 1 1) (sym is) (record { receives = omega arith; sends = omega arith })
+
+most_once : (goes : Bool) (config : Configuration) (before after : List Outcome) (events : List Event) → TakesInOnce goes config before after events → AreAtMost 1 1 events
+most_once true config before after events takes = most_in config before after events takes
+most_once false config before after events takes = most_left config events takes.0
+
+pub most_taken : (goes : Bool) (config : Configuration) (before after : List Outcome) (old new : Option (List Event)) → Passes (TakesInOnce goes config before after) old new → Passes (AreAtMost 1 1) old new
+most_taken goes config before after = passes_widen (TakesInOnce goes config before after) (AreAtMost 1 1) (most_once goes config before after)
 
 most_by_hand : (was is : Inlet) (events : List Event) → ((taken is ≡ taken was) × (events ≡ [])) ⊎ HandsOne was is events → AreAtMost 0 1 events
 most_by_hand was is events (inl none) = subst (AreAtMost 0 1) (sym none.1) (most_none 0 1)

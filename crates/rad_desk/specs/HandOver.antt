@@ -1,12 +1,14 @@
 -- What the front hands over to a ledger (own): the responses that the inlets gave, each once, in the order in which they
 -- were given and sent, and each right before it was sent.
 use Rattle.std.specs.Prelude.{◌≡◌, List, [], ◌∷◌, ◌++◌, map as each, Option, Some, None}
+use Rattle.std.specs.List.{flat_map}
 use Rattle.rad_realms.specs.Configuration.{Configuration}
 use Rattle.rad_lane.specs.declared.outgoing.Outgoing.{Outgoing}
 use Rattle.locked_lanes.specs.declared.inlet.Inlet.{Inlet}
 use Rattle.locked_lanes.specs.Inlet.{taken}
 use Rattle.rad_desk.specs.Traffic.{Event, logged}
-use Rattle.rad_desk.specs.Once.{Part, quiet, back, given, events_of, WorksInFront}
+use Rattle.rad_desk.specs.Handling.{Outcome}
+use Rattle.rad_desk.specs.Once.{Part, dropped, silent, back, given, events_of, outcomes_of, WorksInParts}
 
 -- A response that was handed over, and all that had passed over the wire by then. A wire may keep no log.
 pub record Handing : Type 0 where
@@ -29,8 +31,9 @@ pub record KeepsTaken (old new : Inlet) (since : Option (List Event)) (before af
 
 -- The response of a part, if an inlet gave one in it.
 abbrev pub response_of : Part → List Outgoing
-response_of (quiet events) = []
-response_of (back socket from question moment octets delivery) = []
+response_of (dropped socket from question reason) = []
+response_of (silent socket from question outcome) = []
+response_of (back socket from question outcome octets delivery) = []
 response_of (given place outgoing delivery) = outgoing ∷ []
 
 -- What is handed over in these parts, the first of which began when this had passed: the response of each part, in order,
@@ -42,7 +45,8 @@ handings_of since (part ∷ more) = each (handed_at since) (response_of part) ++
 -- The front works in parts, after what had passed before. Exactly the responses of the parts were handed over, each once, and
 -- in the order of the parts: the order in which the inlets gave them, and in which they were sent. When each one was handed
 -- over, exactly the parts before it had passed, and it was not yet sent. Those of one inlet are what it gave, by `EachGave` of
--- the parts.
-pub record HandsOver (config : Configuration) (old new : List Inlet) (since : Option (List Event)) (before after : Option (List Handing)) (events : List Event) : Type 0 where
-  pub work : WorksInFront config old new events
+-- the parts. The entrance has exactly the outcomes of the parts, in order, from `came` to `gone`.
+pub record HandsOver (config : Configuration) (old new : List Inlet) (came gone : List Outcome) (since : Option (List Event)) (before after : Option (List Handing)) (events : List Event) : Type 0 where
+  pub work : WorksInParts config old new events
+  pub entered : gone ≡ came ++ flat_map outcomes_of work.parts
   pub kept : after ≡ kept_with before (handings_of since work.parts)

@@ -13,6 +13,7 @@ use Rattle.rad_lane.specs.Datagrams.{Datagrams}
 use Rattle.locked_lanes.specs.Departures.{Returns, AcceptsLawfully, UnlessWrongLane}
 use Rattle.locked_lanes.specs.Found.{LeadsElsewhere, IfWrongLane}
 use Rattle.rad_desk.specs.declared.handling.Handled.{Handled}
+use Rattle.rad_desk.specs.declared.handling.Handling.{Handling}
 use Rattle.rad_desk.specs.declared.handling.Handled.TheVariants.{Taken, Answered}
 
 -- The datagram is a request, and this is the outcome at its lane. If the lane's number is not below `lanes`, it is
@@ -34,9 +35,22 @@ pub record IsAnswered (asked : Incoming) (answer : List ℕ) : Type 0 where
   pub is : asked ≡ incoming.Status status
   pub sent : answer ≡ accounting_response (identifier_of status.text) (authenticator_of status.text) [] status.secret
 
+pub record IsARequest (asked : Incoming) : Type 0 where
+  pub request : Request
+  pub is : asked ≡ incoming.Request request
+
 -- The result of a datagram at this moment, with `lanes` lanes. So a request is never answered as a Status-Server, and a
 -- Status-Server is always answered and never reaches a lane.
 abbrev pub Handles : Incoming → ℕ → ℕ → Result Handled Refusal → Datagrams → Type 0
 Handles asked moment lanes (Ok Answered) d = IsAnswered asked d.after
 Handles asked moment lanes (Ok (Taken lane taken)) d = (given : IsGivenOn asked moment lanes (Ok taken) d) × (lane ≡ given.request.lane)
 Handles asked moment lanes (Err refusal) d = IsGivenOn asked moment lanes (Err refusal) d
+
+-- What a datagram that passed the checks led to, at this moment.
+pub record Outcome : Type 0 where
+  pub asked : Incoming
+  pub moment : ℕ
+  pub result : Result Handled Refusal
+
+abbrev pub outcome_of : Incoming → Handling → Outcome
+outcome_of asked handling = record { asked = asked; moment = handling.moment; result = handling.result }

@@ -1,7 +1,7 @@
--- What the front does, as its wire sees it (RFC 2866 section 4.2, RFC 5997 section 4.2, own). It is a sequence of parts. Each
--- part sends nothing, or answers the datagram that came right before it, or sends what an inlet gave. What each inlet gave is
--- sent once, in order.
-use Rattle.std.specs.Prelude.{◌≡◌, ◌+◌, ◌<◌, ◌==◌, ⊤, ℕ, List, [], ◌∷◌, ◌++◌, ◌⊎◌, length, All, cond, Ok}
+-- What the front does, as its wire sees it (RFC 2866 section 4.2, RFC 5997 section 4.2, own). It is a sequence of parts. In each
+-- part one datagram came, and was dropped or handled, and what answers it was sent back; or what an inlet gave was sent. What each
+-- inlet gave is sent once, in order.
+use Rattle.std.specs.Prelude.{◌≡◌, ◌+◌, ◌<◌, ◌==◌, ⊤, ℕ, List, [], ◌∷◌, ◌++◌, ◌⊎◌, Bool, true, false, length, All, cond, Result, Ok, Err}
 use Rattle.std.specs.List.{flat_map}
 use Rattle.rad_packet.specs.Packet.{identifier_of, authenticator_of}
 use Rattle.rad_auth.specs.Authenticator.{accounting_response, IsRightResponse}
@@ -11,15 +11,22 @@ use Rattle.rad_realms.specs.declared.checking.Incoming.TheVariants as incoming
 use Rattle.rad_realms.specs.Checking.{Request as Checked}
 use Rattle.rad_realms.specs.Configuration.{Configuration}
 use Rattle.rad_realms.specs.Incoming.{Takes}
+use Rattle.rad_realms.specs.Checking.{Drops}
+use Rattle.rad_realms.specs.declared.checking.Dropped.{Dropped}
 use Rattle.rad_lane.specs.declared.outgoing.Outgoing.{Outgoing}
-use Rattle.rad_lane.specs.declared.accepting.Taken.TheVariants.{Again}
+use Rattle.rad_lane.specs.declared.accepting.Refusal.{Refusal}
+use Rattle.rad_lane.specs.declared.accepting.Taken.TheVariants.{New, Waiting, Again}
+use Rattle.rad_lane.specs.Datagrams.{Datagrams}
 use Rattle.locked_lanes.specs.declared.inlet.Inlet.{Inlet}
 use Rattle.rad_desk.specs.declared.wire.Delivery.{Delivery}
+use Rattle.rad_desk.specs.declared.handling.Handled.{Handled}
+use Rattle.rad_desk.specs.declared.handling.Handled.TheVariants.{Taken, Answered}
+use Rattle.rad_desk.specs.Handling.{Handles, IsARequest, Outcome}
 use Rattle.locked_lanes.specs.Departures.{AcceptsLawfully, IsVerifiedResponse}
 use Rattle.locked_lanes.specs.Fates.{AnswersARecord, EachOnce}
 use Rattle.locked_lanes.specs.Inlet.{taken, SameInlet}
 use Rattle.rad_desk.specs.Traffic.{Event, arrived, departed, told, endpoint}
-use Rattle.rad_desk.specs.Calls.{IsQuiet, IsALook}
+use Rattle.rad_desk.specs.Calls.{IsSent}
 
 -- The octets answer a request again (RFC 2866 section 4.2). A lawful book gave them as the answer to this request, a
 -- repeat, at this moment. They are a response after a verified reply, have the request's Identifier, and are valid for
@@ -45,61 +52,78 @@ Fits (incoming.Request r) octets =
     (identifier_of octets ≡ identifier_of r.text) × IsRightResponse r.secret (authenticator_of r.text) octets
 Fits (incoming.Status s) octets = ⊤
 
--- The datagram from this address and port is a valid one of a client of this configuration, and the octets answer it.
-pub record AnswersWhatCame (config : Configuration) (from : Endpoint) (question : List ℕ) (moment : ℕ) (octets : List ℕ) : Type 0 where
-  pub incoming : Incoming
-  pub right : Takes config from.address from.port question incoming
-  pub answers : IsAnswerTo incoming moment octets
+-- The result of a datagram that is answered at once.
+abbrev pub IsAnswering : Result Handled Refusal → Type 0
+IsAnswering (Ok Answered) = ⊤
+IsAnswering (Ok (Taken lane (New number))) = ⊥
+IsAnswering (Ok (Taken lane (Waiting number))) = ⊥
+IsAnswering (Ok (Taken lane (Again number))) = ⊤
+IsAnswering (Err refusal) = ⊥
 
--- A part of the work: `quiet`, in which these events passed and nothing was sent; `back`, in which a datagram was
--- received on a socket, from this address and port, the moment was read, and these octets were sent back; or `given`,
--- in which the response was sent that the inlet at this place gave.
+-- What is sent back for a datagram with this result, for which these octets were written: the octets, if they are the answer to a
+-- Status-Server or answer a repeat and fit it; otherwise nothing.
+abbrev pub Replies : ℕ → Endpoint → Incoming → Result Handled Refusal → List ℕ → List Event → Type 0
+Replies socket from asked (Ok Answered) octets events = IsSent socket from octets events
+Replies socket from asked (Ok (Taken lane (New number))) octets events = events ≡ []
+Replies socket from asked (Ok (Taken lane (Waiting number))) octets events = events ≡ []
+Replies socket from asked (Ok (Taken lane (Again number))) octets events =
+    (Fits asked octets × IsSent socket from octets events) ⊎ ((¬ Fits asked octets) × (events ≡ []))
+Replies socket from asked (Err refusal) octets events = events ≡ []
+
+-- Nothing is sent for a datagram with this outcome: it is a request, which its lane took as new, or as a repeat of one that waits, or
+-- which is refused; or it is a repeat of an answered request, and what was written for it does not fit it.
+abbrev pub SendsNothing : Incoming → Result Handled Refusal → List ℕ → Type 0
+SendsNothing asked (Ok Answered) octets = ⊥
+SendsNothing asked (Ok (Taken lane (New number))) octets = ⊤
+SendsNothing asked (Ok (Taken lane (Waiting number))) octets = ⊤
+SendsNothing asked (Ok (Taken lane (Again number))) octets = ¬ Fits asked octets
+SendsNothing asked (Err refusal) octets = ⊤
+
+pub record IsSilent (outcome : Outcome) : Type 0 where
+  pub lanes : ℕ
+  pub datagrams : Datagrams
+  pub handles : Handles outcome.asked outcome.moment lanes outcome.result datagrams
+  pub nothing : SendsNothing outcome.asked outcome.result datagrams.after
+
+-- The octets answer a datagram with this outcome.
+pub record IsAnsweredWith (outcome : Outcome) (octets : List ℕ) : Type 0 where
+  pub answering : IsAnswering outcome.result
+  pub answers : IsAnswerTo outcome.asked outcome.moment octets
+
+-- A part of the work:
+-- `dropped`, in which a datagram was received on a socket, from this address and port, and dropped for this reason;
+-- `silent`, in which such a datagram was received, the moment was read, and the datagram was handled with this outcome;
+-- `back`, in which also these octets were sent back;
+-- `given`, in which the response was sent that the inlet at this place gave.
 pub data Part : Type 0 where
-  quiet : List Event → Part
-  back : ℕ → Endpoint → List ℕ → ℕ → List ℕ → Delivery → Part
+  dropped : ℕ → Endpoint → List ℕ → Dropped → Part
+  silent : ℕ → Endpoint → List ℕ → Outcome → Part
+  back : ℕ → Endpoint → List ℕ → Outcome → List ℕ → Delivery → Part
   given : ℕ → Outgoing → Delivery → Part
 
 -- An answer is sent back from the socket that received the question, to the address and port that the question came
 -- from. A response is sent from the first socket, to its client and port.
 abbrev pub events_of : Part → List Event
-events_of (quiet events) = events
-events_of (back socket from question moment octets delivery) =
-    arrived socket from question ∷ told moment ∷ departed socket from octets delivery ∷ []
+events_of (dropped socket from question reason) = arrived socket from question ∷ []
+events_of (silent socket from question outcome) = arrived socket from question ∷ told outcome.moment ∷ []
+events_of (back socket from question outcome octets delivery) =
+    arrived socket from question ∷ told outcome.moment ∷ departed socket from octets delivery ∷ []
 events_of (given place outgoing delivery) =
     departed 0 (endpoint outgoing.client outgoing.port) outgoing.reply.response delivery ∷ []
 
--- A datagram was received, the moment was read, and an answer to the datagram was sent back.
-pub record GoesBack (config : Configuration) (events : List Event) : Type 0 where
-  pub socket : ℕ
-  pub from : Endpoint
-  pub question : List ℕ
-  pub moment : ℕ
-  pub octets : List ℕ
-  pub delivery : Delivery
-  pub is : events ≡ events_of (back socket from question moment octets delivery)
-  pub answers : AnswersWhatCame config from question moment octets
+-- What the datagram of a part led to, if it was handled.
+abbrev pub outcomes_of : Part → List Outcome
+outcomes_of (dropped socket from question reason) = []
+outcomes_of (silent socket from question outcome) = outcome ∷ []
+outcomes_of (back socket from question outcome octets delivery) = outcome ∷ []
+outcomes_of (given place outgoing delivery) = []
 
--- At most one datagram was received, and then at most the moment was read.
-abbrev pub IsUnanswered : List Event → Type 0
-IsUnanswered events =
-    (events ≡ [])
-    ⊎ ((socket : ℕ) × (from : Endpoint) × (question : List ℕ) × (later : List Event)
-    × (events ≡ arrived socket from question ∷ later) × IsALook later)
-
-abbrev pub SendsBack : Configuration → List Event → Type 0
-SendsBack config events = IsUnanswered events ⊎ GoesBack config events
-
--- The moment was read, and what then answers the datagram was sent back, from the socket that received it, to the
--- address and port that it came from.
-pub record AnswerGoes (socket : ℕ) (from : Endpoint) (asked : Incoming) (events : List Event) : Type 0 where
-  pub moment : ℕ
-  pub octets : List ℕ
-  pub delivery : Delivery
-  pub is : events ≡ told moment ∷ departed socket from octets delivery ∷ []
-  pub answers : IsAnswerTo asked moment octets
-
-abbrev pub SendsAnAnswer : ℕ → Endpoint → Incoming → List Event → Type 0
-SendsAnAnswer socket from asked events = IsALook events ⊎ AnswerGoes socket from asked events
+-- A part in which a datagram came.
+abbrev pub IsReceipt : Part → Type 0
+IsReceipt (dropped socket from question reason) = ⊤
+IsReceipt (silent socket from question outcome) = ⊤
+IsReceipt (back socket from question outcome octets delivery) = ⊤
+IsReceipt (given place outgoing delivery) = ⊥
 
 -- The inlet gave one response, which answers a record, and that was sent, and nothing else passed.
 pub record HandsOne (old new : Inlet) (events : List Event) : Type 0 where
@@ -112,17 +136,59 @@ pub record HandsOne (old new : Inlet) (events : List Event) : Type 0 where
 abbrev pub Hands : Inlet → Inlet → List Event → Type 0
 Hands old new events = SameInlet old new × (((taken new ≡ taken old) × (events ≡ [])) ⊎ HandsOne old new events)
 
--- What a valid part is: nothing was sent; or the octets answer what came; or the response is of one of the `inlets`
--- inlets, and answers a record of the client and port to which it is sent.
+-- What a valid part is. A datagram was dropped by the checks of this configuration, for this reason; or it passed them, as the request
+-- or the Status-Server that was handled, and nothing is sent for it, or what answers it; or the response is of one of the `inlets` inlets,
+-- and answers a record of the client and port to which it is sent.
 abbrev pub IsRight : Configuration → ℕ → Part → Type 0
-IsRight config inlets (quiet events) = IsQuiet events
-IsRight config inlets (back socket from question moment octets delivery) = AnswersWhatCame config from question moment octets
+IsRight config inlets (dropped socket from question reason) = Drops config from.address question reason
+IsRight config inlets (silent socket from question outcome) = Takes config from.address from.port question outcome.asked × IsSilent outcome
+IsRight config inlets (back socket from question outcome octets delivery) =
+    Takes config from.address from.port question outcome.asked × IsAnsweredWith outcome octets
 IsRight config inlets (given place outgoing delivery) = (place < inlets) × AnswersARecord outgoing
+
+-- At most one datagram came, and it is a valid part. What it led to, if it was handled, was added to the outcomes.
+abbrev pub TakesIn : Configuration → List Outcome → List Outcome → List Event → Type 0
+TakesIn config before after events =
+    ((events ≡ []) × (after ≡ before))
+    ⊎ ((part : Part) × IsReceipt part × (events ≡ events_of part) × ((inlets : ℕ) → IsRight config inlets part)
+    × (after ≡ before ++ outcomes_of part))
+
+-- At most one datagram came: a valid request, which is not passed to its lane, since the worker is stopped.
+abbrev pub IsLeftUntaken : Configuration → List Event → Type 0
+IsLeftUntaken config events =
+    (events ≡ [])
+    ⊎ ((socket : ℕ) × (from : Endpoint) × (question : List ℕ) × (request : Checked)
+    × Takes config from.address from.port question (incoming.Request request) × (events ≡ arrived socket from question ∷ []))
+
+-- What passed where the worker received: one part, or none, if it goes on.
+abbrev pub TakesInOnce : Bool → Configuration → List Outcome → List Outcome → List Event → Type 0
+TakesInOnce true config before after events = TakesIn config before after events
+TakesInOnce false config before after events = IsLeftUntaken config events × (after ≡ before)
+
+-- A valid datagram was handled: the moment was read, the outcome was added to the outcomes, and what answers the datagram was sent back,
+-- from the socket that received it, to the address and port that it came from, or nothing was sent. If the worker is stopped, it is a
+-- request, and nothing of this was done.
+pub record Serves (socket : ℕ) (from : Endpoint) (asked : Incoming) (before after : List Outcome) (events : List Event) : Type 0 where
+  pub outcome : Outcome
+  pub same : outcome.asked ≡ asked
+  pub added : after ≡ before ++ outcome ∷ []
+  pub later : List Event
+  pub is : events ≡ told outcome.moment ∷ later
+  pub sends : (IsSilent outcome × (later ≡ []))
+      ⊎ ((octets : List ℕ) × IsAnsweredWith outcome octets × IsSent socket from octets later)
+
+abbrev pub IsStopped : Incoming → List Outcome → List Outcome → List Event → Type 0
+IsStopped asked before after events = IsARequest asked × (events ≡ []) × (after ≡ before)
+
+abbrev pub ServesOnce : Bool → ℕ → Endpoint → Incoming → List Outcome → List Outcome → List Event → Type 0
+ServesOnce true socket from asked before after events = Serves socket from asked before after events
+ServesOnce false socket from asked before after events = IsStopped asked before after events
 
 -- The responses that the inlet at a place gave, in order.
 abbrev pub given_in : ℕ → Part → List Outgoing
-given_in place (quiet events) = []
-given_in place (back socket from question moment octets delivery) = []
+given_in place (dropped socket from question reason) = []
+given_in place (silent socket from question outcome) = []
+given_in place (back socket from question outcome octets delivery) = []
 given_in place (given other outgoing delivery) = cond (other == place) (outgoing ∷ []) []
 
 abbrev pub given_by : ℕ → List Part → List Outgoing
@@ -137,8 +203,25 @@ EachGave parts place (a ∷ then) (b ∷ now) =
 EachGave parts place [] (b ∷ now) = ⊥
 EachGave parts place (a ∷ then) [] = ⊥
 
-pub record WorksInFront (config : Configuration) (old new : List Inlet) (events : List Event) : Type 0 where
+-- The front works in valid parts.
+pub record WorksInParts (config : Configuration) (old new : List Inlet) (events : List Event) : Type 0 where
   pub parts : List Part
   pub passed : events ≡ flat_map events_of parts
   pub right : All (IsRight config (length old)) parts
   pub gave : EachGave parts 0 old new
+
+-- The front does this, and at the end it may be stopped when a request has just come.
+pub record UntilStopped (config : Configuration) (Does : List Event → Type 0) (events : List Event) : Type 0 where
+  pub before : List Event
+  pub last : List Event
+  pub passed : events ≡ before ++ last
+  pub does : Does before
+  pub stopped : IsLeftUntaken config last
+
+abbrev pub WorksInFront : Configuration → List Inlet → List Inlet → List Event → Type 0
+WorksInFront config old new events = UntilStopped config (WorksInParts config old new) events
+
+-- The front does this, and goes on or is stopped.
+abbrev pub DoesOrStops : Bool → Configuration → (List Event → Type 0) → List Event → Type 0
+DoesOrStops true config Does events = Does events
+DoesOrStops false config Does events = UntilStopped config Does events

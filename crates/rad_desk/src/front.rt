@@ -1,23 +1,24 @@
 //! The worker of the clients' side.
 
-ghost use Rattle.std.specs.Prelude.{◌≡◌, ◌≤◌, ◌+◌, ◌*◌, ◌↔◌, length, IsTrue, option_copied};
+ghost use Rattle.std.specs.Prelude.{◌≡◌, ◌≤◌, ◌+◌, ◌*◌, ◌↔◌, List, length, IsTrue, MatchBool, option_copied};
+ghost use Rattle.rad_desk.specs.Handling.{Outcome, IsARequest};
 ghost use Rattle.rad_realms.specs.Configuration.{Configuration};
 ghost use Rattle.rad_desk.specs.Calls.{Passes, AreAtMost};
-ghost use Rattle.rad_desk.specs.Once.{WorksInFront, SendsBack, SendsAnAnswer, Hands, Fits};
+ghost use Rattle.rad_desk.specs.Once.{WorksInFront, UntilStopped, DoesOrStops, TakesInOnce, ServesOnce, Replies, Hands, Fits};
 ghost use Rattle.rad_desk.specs.HandOver.{KeepsTaken, HandsOver};
 ghost use Rattle.rad_desk.specs.Keeping.{Keeps};
 ghost use Rattle.rad_desk.specs.Reports.{realm_report};
 
 use crate::gate::{Call, Gate, Repeat, Worker, WorkerReport};
-use crate::handling::{Handled, handle};
+use crate::handling::{Entrance, Handled, enter};
 use crate::ledger::{Ledger, NoLedger};
 use crate::marks::count_marks;
 use crate::shift::{Arrival, Buffers, Shift};
 use crate::tally::Tally;
-use crate::wire::Wire;
+use crate::wire::{Delivery, Wire};
 use locked_lanes::{Inlet, Proxy};
 use rad_auth::check_response;
-use rad_lane::Taken;
+use rad_lane::{Refusal, Taken};
 use rad_packet::Datagram;
 use rad_realms::{Config, Endpoint, Incoming, check_in};
 use std::alloc::Global;
@@ -46,6 +47,7 @@ pub fn front_worker<W: Wire, G: Gate>(
     ensures made { Passes (AreAtMost result.turns (result.turns * (1 + length inlets.old))) (W.log wire.old) (W.log wire.new) }
 {
     let mut ledger = NoLedger;
+    let mut entrance = Entrance::new();
     front_worker_with(
         rt,
         alloc,
@@ -54,6 +56,7 @@ pub fn front_worker<W: Wire, G: Gate>(
         inlets,
         wire,
         &mut ledger,
+        &mut entrance,
         gate,
         turns,
     )
@@ -61,7 +64,8 @@ pub fn front_worker<W: Wire, G: Gate>(
 
 /// Serves the clients as [`front_worker`] does, and hands over each response that an inlet gives to a ledger: once, in
 /// the order in which the inlets gave them, and right before it is sent: the ledger's list tells with each response what
-/// had passed over the wire when it was handed over.
+/// had passed over the wire when it was handed over. The list of the entrance tells what each datagram led to that
+/// passed the checks: exactly one outcome for each, but for the last one if the gate stops the worker then.
 pub fn front_worker_with<W: Wire, L: Ledger, G: Gate>(
     rt: &impl Wait,
     alloc: Global,
@@ -70,11 +74,12 @@ pub fn front_worker_with<W: Wire, L: Ledger, G: Gate>(
     inlets: &mut [Inlet],
     wire: &mut W,
     ledger: &mut L,
+    entrance: &mut Entrance,
     gate: &G,
     turns: u64,
 ) -> Tally
     ensures works { Passes (WorksInFront config.now inlets.old inlets.new) (W.log wire.old) (W.log wire.new) }
-    ensures hands_over { Passes (HandsOver config.now inlets.old inlets.new (W.log wire.old) (L.kept ledger.old) (L.kept ledger.new)) (W.log wire.old) (W.log wire.new) }
+    ensures hands_over { Passes (UntilStopped config.now (HandsOver config.now inlets.old inlets.new entrance.old.outcomes entrance.new.outcomes (W.log wire.old) (L.kept ledger.old) (L.kept ledger.new))) (W.log wire.old) (W.log wire.new) }
     ensures turns { result.turns ≤ turns }
     ensures made { Passes (AreAtMost result.turns (result.turns * (1 + length inlets.old))) (W.log wire.old) (W.log wire.new) }
 {
@@ -82,7 +87,7 @@ pub fn front_worker_with<W: Wire, L: Ledger, G: Gate>(
     let mut buffers = Buffers::new();
     for turn in 0..turns {
         shift.tally.turns = turn + 1;
-        if !take_turn(&mut shift, &mut buffers, config, inlets, ledger) {
+        if !take_turn(&mut shift, &mut buffers, config, inlets, ledger, entrance) {
             return shift.tally;
         }
     }
@@ -97,21 +102,25 @@ fn take_turn<R: Wait, W: Wire, L: Ledger, G: Gate>(
     config: &Config,
     inlets: &mut [Inlet],
     ledger: &mut L,
+    entrance: &mut Entrance,
 ) -> bool
-    ensures hands_over { Passes (HandsOver config.now inlets.old inlets.new (W.log shift.old.wire.now) (L.kept ledger.old) (L.kept ledger.new)) (W.log shift.old.wire.now) (W.log shift.new.wire.now) }
+    ensures hands_over { Passes (DoesOrStops result config.now (HandsOver config.now inlets.old inlets.new entrance.old.outcomes entrance.new.outcomes (W.log shift.old.wire.now) (L.kept ledger.old) (L.kept ledger.new))) (W.log shift.old.wire.now) (W.log shift.new.wire.now) }
     ensures made { Passes (AreAtMost 1 (1 + length inlets.old)) (W.log shift.old.wire.now) (W.log shift.new.wire.now) }
     ensures keeps { Keeps shift.old shift.new }
 {
-    take_in(shift, buffers, config) && hand_out(shift, inlets, ledger)
+    take_in(shift, buffers, config, ledger, entrance) && hand_out(shift, inlets, ledger)
 }
 
 /// Receives once, handles what was received, and returns whether the worker goes on.
-fn take_in<R: Wait, W: Wire, G: Gate>(
+fn take_in<R: Wait, W: Wire, L: Ledger, G: Gate>(
     shift: &mut Shift<'_, R, W, G>,
     buffers: &mut Buffers,
     config: &Config,
+    ledger: &mut L,
+    entrance: &mut Entrance,
 ) -> bool
-    ensures sends { Passes (SendsBack config.now) (W.log shift.old.wire.now) (W.log shift.new.wire.now) }
+    ensures takes_in { Passes (TakesInOnce result config.now entrance.old.outcomes entrance.new.outcomes) (W.log shift.old.wire.now) (W.log shift.new.wire.now) }
+    ensures kept { L.kept ledger.new ≡ L.kept ledger.old }
     ensures keeps { Keeps shift.old shift.new }
 {
     let Some(arrival) = shift.receive(&mut buffers.octets) else {
@@ -119,7 +128,14 @@ fn take_in<R: Wait, W: Wire, G: Gate>(
     };
     let Arrival { from, octets, .. } = arrival;
     match check_in(config, from.address, from.port, octets) {
-        Ok(incoming) => serve(shift, &arrival, &incoming, &mut buffers.datagram),
+        Ok(incoming) => serve(
+            shift,
+            &arrival,
+            &incoming,
+            &mut buffers.datagram,
+            ledger,
+            entrance,
+        ),
         Err(reason) => {
             shift.report(&WorkerReport::Dropped {
                 reason,
@@ -166,26 +182,29 @@ fn report_of_realm<'a>(
 }
 
 /// Passes a request to its lane or answers a Status-Server, and returns whether the worker goes on.
-fn serve<R: Wait, W: Wire, G: Gate>(
+fn serve<R: Wait, W: Wire, L: Ledger, G: Gate>(
     shift: &mut Shift<'_, R, W, G>,
     arrival: &Arrival<'_>,
     incoming: &Incoming<'_>,
     datagram: &mut Datagram,
+    ledger: &mut L,
+    entrance: &mut Entrance,
 ) -> bool
-    ensures sends { Passes (SendsAnAnswer arrival.now.socket arrival.now.from incoming.now) (W.log shift.old.wire.now) (W.log shift.new.wire.now) }
+    ensures serves { Passes (ServesOnce result arrival.now.socket arrival.now.from incoming.now entrance.old.outcomes entrance.new.outcomes) (W.log shift.old.wire.now) (W.log shift.new.wire.now) }
+    ensures kept { L.kept ledger.new ≡ L.kept ledger.old }
     ensures keeps { Keeps shift.old shift.new }
 {
-    let Arrival { from, socket, .. } = *arrival;
-    let is_request = matches!(incoming, Incoming::Request(_));
+    let is_request = is_request(incoming);
     if is_request && !shift.may(Call::Accept) {
         return false;
     }
-    tell_request(shift, from, incoming);
+    tell_request(shift, arrival.from, incoming);
     let moment = shift.wire.now();
-    let handled = handle(
+    let handled = enter(
         shift.rt,
         shift.alloc,
         shift.proxy,
+        entrance,
         incoming,
         moment,
         datagram,
@@ -193,36 +212,76 @@ fn serve<R: Wait, W: Wire, G: Gate>(
     if is_request {
         shift.made(Call::Accept);
     }
+    answer(shift, arrival, incoming, handled, datagram, ledger);
+    true
+}
+
+fn is_request(incoming: &Incoming<'_>) -> bool
+    ensures { MatchBool result (IsARequest incoming.now) (Unit {0}) }
+{
+    match incoming {
+        Incoming::Request(_) => true,
+        Incoming::Status(_) => false,
+    }
+}
+
+/// Reports what a datagram led to that passed the checks, and sends back what answers it.
+fn answer<R, W: Wire, L: Ledger, G: Gate>(
+    shift: &mut Shift<'_, R, W, G>,
+    arrival: &Arrival<'_>,
+    incoming: &Incoming<'_>,
+    handled: Result<Handled, Refusal>,
+    datagram: &Datagram,
+    ledger: &mut L,
+)
+    ensures replies { Passes (Replies arrival.now.socket arrival.now.from incoming.now handled datagram.now) (W.log shift.old.wire.now) (W.log shift.new.wire.now) }
+    ensures kept { L.kept ledger.new ≡ L.kept ledger.old }
+    ensures keeps { Keeps shift.old shift.new }
+{
+    let Arrival { from, socket, .. } = *arrival;
+    let octets = octets_of(incoming);
     match handled {
         Ok(Handled::Taken(lane, Taken::New(number))) => shift.report(&WorkerReport::Accepted {
             lane,
             number,
             from,
-            octets: octets_of(incoming),
+            octets,
         }),
         Ok(Handled::Taken(_, Taken::Waiting(_))) => shift.report(&WorkerReport::Repeated {
             repeat: Repeat::Waiting,
             from,
-            octets: octets_of(incoming),
+            octets,
         }),
-        Ok(Handled::Taken(_, Taken::Again(_))) => {
+        Ok(Handled::Taken(lane, Taken::Again(number))) => {
             shift.report(&WorkerReport::Repeated {
                 repeat: Repeat::Answered,
                 from,
-                octets: octets_of(incoming),
+                octets,
             });
             if fits(incoming, datagram) {
-                shift.send(socket, from, datagram.bytes());
+                ledger.send_again(lane, number);
+                let delivery = shift.send(socket, from, datagram.bytes());
+                tell_fault(ledger, delivery, lane, number);
             }
         }
-        Ok(Handled::Answered) => shift.send(socket, from, datagram.bytes()),
+        Ok(Handled::Answered) => {
+            shift.send(socket, from, datagram.bytes());
+        }
         Err(reason) => shift.report(&WorkerReport::Refused {
             reason,
             from,
-            octets: octets_of(incoming),
+            octets,
         }),
     }
-    true
+}
+
+/// Tells the ledger that a response could not be sent, if it could not.
+fn tell_fault<L: Ledger>(ledger: &mut L, delivery: Delivery, lane: u16, number: u64)
+    ensures { L.kept ledger.new ≡ L.kept ledger.old }
+{
+    if delivery == Delivery::Fault {
+        ledger.lose(lane, number);
+    }
 }
 
 /// Returns the octets of a packet that passed the checks, without padding.
@@ -255,7 +314,7 @@ fn hand_out<R, W: Wire, L: Ledger, G: Gate>(
     inlets: &mut [Inlet],
     ledger: &mut L,
 ) -> bool
-    ensures hands_over { (config : Configuration) → Passes (HandsOver config inlets.old inlets.new (W.log shift.old.wire.now) (L.kept ledger.old) (L.kept ledger.new)) (W.log shift.old.wire.now) (W.log shift.new.wire.now) }
+    ensures hands_over { (config : Configuration) (came : List Outcome) → Passes (HandsOver config inlets.old inlets.new came came (W.log shift.old.wire.now) (L.kept ledger.old) (L.kept ledger.new)) (W.log shift.old.wire.now) (W.log shift.new.wire.now) }
     ensures sends { Passes (AreAtMost 0 (length inlets.old)) (W.log shift.old.wire.now) (W.log shift.new.wire.now) }
     ensures keeps { Keeps shift.old shift.new }
 {
@@ -286,12 +345,15 @@ fn take<R, W: Wire, L: Ledger, G: Gate>(
         address: outgoing.client,
         port: outgoing.port,
     };
+    let lane = inlet.lane();
+    let number = outgoing.reply.mark().number;
     ledger.keep(&outgoing, &*shift.wire);
-    shift.send(LISTEN, to, outgoing.reply.response());
+    let delivery = shift.send(LISTEN, to, outgoing.reply.response());
+    tell_fault(ledger, delivery, lane, number);
     shift.report(&WorkerReport::Took {
-        lane: inlet.lane(),
+        lane,
         serial: outgoing.serial,
-        number: outgoing.reply.mark().number,
+        number,
         client: to,
         sent: outgoing.reply.sending(),
     });

@@ -192,6 +192,10 @@ pub enum WorkerReport<'a> {
         number: u64,
         slot: Slot,
     },
+    /// The lane's request of this number is about to be sent again.
+    SentAgain {
+        number: u64,
+    },
     /// The home server is marked down from now on, since this request is unanswered. If several requests are spent, it is
     /// the one with the earliest due time; ties go to the lowest number.
     WentDown(Option<&'a Spent>),
@@ -228,7 +232,8 @@ impl WorkerReport<'_> {
             | WorkerReport::Repeated { .. }
             | WorkerReport::Answered { .. }
             | WorkerReport::Stands { .. }
-            | WorkerReport::FirstSent { .. } => None,
+            | WorkerReport::FirstSent { .. }
+            | WorkerReport::SentAgain { .. } => None,
         }
     }
 }

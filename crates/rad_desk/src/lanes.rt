@@ -190,16 +190,18 @@ fn step<R: Wait, W: Wire, G: Gate>(
     let Some(port) = port_of(&stepped.action) else {
         return follow(shift, lane, home, &stepped);
     };
-    tell_first(shift, &stepped.action);
+    tell_sending(shift, &stepped.action);
     let origin = origin_of_sent(shift, asked, lane, &stepped.action);
     send_home(shift, home, port, &buffers.datagram, origin.as_ref());
     true
 }
 
-/// Reports that a request is about to be sent for the first time, if that is the step.
-fn tell_first<R, W: Wire, G: Gate>(shift: &Shift<'_, R, W, G>, action: &Action) {
-    if let Action::Sent(number, slot) = *action {
-        shift.report(&WorkerReport::FirstSent { number, slot });
+/// Reports that a request is about to be sent, for the first time or again, if that is the step.
+fn tell_sending<R, W: Wire, G: Gate>(shift: &Shift<'_, R, W, G>, action: &Action) {
+    match *action {
+        Action::Sent(number, slot) => shift.report(&WorkerReport::FirstSent { number, slot }),
+        Action::Resent(number, _) => shift.report(&WorkerReport::SentAgain { number }),
+        Action::Probed(_) | Action::WentDown | Action::WentUp | Action::Idle(_) => {}
     }
 }
 

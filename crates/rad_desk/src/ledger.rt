@@ -31,6 +31,17 @@ pub trait Ledger {
     fn keep<W: Wire>(&mut self, outgoing: &Outgoing, wire: &W)
         ensures { kept self.new ≡ kept_with (kept self.old) (handed_at (W.log wire.now) outgoing.now ∷ []) };
 
+    /// The response of this lane to the request of this number is sent again, to a client that repeated the request. It
+    /// must not wait for anything.
+    fn send_again(&mut self, _lane: u16, _number: u64)
+        ensures { kept self.new ≡ kept self.old }
+    {}
+
+    /// The response of this lane to the request of this number could not be sent. It must not wait for anything.
+    fn lose(&mut self, _lane: u16, _number: u64)
+        ensures { kept self.new ≡ kept self.old }
+    {}
+
     /// Keeps a request that is left, which it is lent. No response comes any more, so it may wait.
     fn leave(&mut self, told: &LeftRecord<'_>)
         ensures { left self.new ≡ left_with (left self.old) (as_left told.now ∷ []) };
@@ -71,6 +82,18 @@ impl<L: Ledger> Ledger for Option<L> {
     fn keep<W: Wire>(&mut self, outgoing: &Outgoing, wire: &W) {
         if let Some(ledger) = self {
             ledger.keep(outgoing, wire);
+        }
+    }
+
+    fn send_again(&mut self, lane: u16, number: u64) {
+        if let Some(ledger) = self {
+            ledger.send_again(lane, number);
+        }
+    }
+
+    fn lose(&mut self, lane: u16, number: u64) {
+        if let Some(ledger) = self {
+            ledger.lose(lane, number);
         }
     }
 

@@ -26,6 +26,7 @@ mod wire;
 
 pub use front::{front_worker, front_worker_with};
 pub use gate::{Asked, Call, Gate, Go, Note, Repeat, UpReason, Worker, WorkerReport};
+pub use handling::Entrance;
 pub use lanes::lane_worker;
 pub use leaving::{LeftRecord, tell_left};
 pub use ledger::{Handed, Ledger, LeftList, NoLedger};

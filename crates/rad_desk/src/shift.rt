@@ -132,11 +132,11 @@ impl<'a, R, W: Wire, G: Gate> Shift<'a, R, W, G> {
     }
 
     /// Reports a datagram, sends it and counts it. If the send fails, the datagram is lost.
-    pub(crate) fn send(&mut self, socket: u16, to: Endpoint, octets: &[u8])
+    pub(crate) fn send(&mut self, socket: u16, to: Endpoint, octets: &[u8]) -> Delivery
         ensures sends { Passes (IsSent socket to octets.now) (W.log self.old.wire.now) (W.log self.new.wire.now) }
         ensures keeps { Keeps self.old self.new }
     {
-        self.send_of(socket, to, octets, None);
+        self.send_of(socket, to, octets, None)
     }
 
     /// Does the same, and reports the origin of the request that is sent, if that is known.
@@ -146,17 +146,19 @@ impl<'a, R, W: Wire, G: Gate> Shift<'a, R, W, G> {
         to: Endpoint,
         octets: &'b [u8],
         origin: Option<&'b Origin>,
-    )
+    ) -> Delivery
         ensures sends { Passes (IsSent socket to octets.now) (W.log self.old.wire.now) (W.log self.new.wire.now) }
         ensures keeps { Keeps self.old self.new }
     {
         self.report(&WorkerReport::Sends { to, octets, origin });
-        match self.wire.send(socket, to.address, to.port, octets) {
+        let delivery = self.wire.send(socket, to.address, to.port, octets);
+        match delivery {
             Delivery::Sent => self.tally.sent = self.tally.sent.saturating_add(1),
             Delivery::Fault => {
                 self.tally.faults = self.tally.faults.saturating_add(1);
                 self.report(&WorkerReport::SendFault { to });
             }
         }
+        delivery
     }
 }

@@ -9,7 +9,7 @@ use rad_telemetry::{ReplaceFile, RuntimeFiles, TraceFault, TraceText, read_trace
 use std::alloc::{AllocGlobal, Global};
 use std::env::{self, Env, VarError};
 use std::fs::{self, Files, OpenFile};
-use std::io::{self, Read, Write};
+use std::io::{self, Read, Seek, Write};
 use std::random::RandomSource;
 use std::rt::Runtime;
 use std::sync::Wait;
@@ -67,7 +67,7 @@ impl<R> RuntimeMachine<R> {
 impl<R, F> Machine for RuntimeMachine<R>
 where
     R: Files<File = F> + AllocGlobal + Env + RandomSource + Sync + Copy + Send + 'static,
-    F: Read + Write + OpenFile + Drop + Send + 'static,
+    F: Read + Write + Seek + OpenFile + Drop + Send + 'static,
 {
     type Files = RuntimeFiles<R>;
 

@@ -208,12 +208,13 @@ impl<'a, H: Host + Net, M: Machine> Service<'a, H, M> {
                 if reports.is_err() {
                     return Err(ServeFault::Threads);
                 }
+                let gate = telemetry.gate_of(rt, ledger);
                 let end = run_with(
                     rt,
                     machine,
                     alloc,
                     config,
-                    telemetry,
+                    &gate,
                     telemetry.left_log(rt, inlet),
                     Streams {
                         reader: ToldStream::new(rt.reader(), "input-fault", log),

@@ -81,7 +81,10 @@ fn does(book: &Book, doing: Doing, moment: u64, walk: &mut Walk<'_>) {
             first_sent(book, place, walk);
             send(book, place, Rule::FIRST_SENDING, walk);
         }
-        Doing::SendAgain(place) => send(book, place, Rule::RESENDING, walk),
+        Doing::SendAgain(place) => {
+            sent_again(book, place, walk);
+            send(book, place, Rule::RESENDING, walk);
+        }
         Doing::Probe(place) => send(book, place, Rule::PROBE, walk),
         Doing::GoDown(number) => went_down(book, number, moment, walk),
         Doing::GoUp => walk.meets(Sign::WentUp(UpReason::DownWaitOver), &[], Rule::WENT_UP),
@@ -99,6 +102,15 @@ fn first_sent(book: &Book, place: usize, walk: &mut Walk<'_>) {
             identifier: (out.pair & 0xff) as u8,
         };
         walk.meets(Sign::FirstSent(number, slot), &[], Rule::FIRST_SENDING);
+    }
+}
+
+/// Expects the report that the request at a place is about to be sent again.
+fn sent_again(book: &Book, place: usize, walk: &mut Walk<'_>) {
+    if let Some(out) = book.out.as_slice().get(place)
+        && let Some(number) = out.number
+    {
+        walk.meets(Sign::SentAgain(number), &[], Rule::RESENDING);
     }
 }
 

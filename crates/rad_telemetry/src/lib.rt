@@ -14,6 +14,7 @@
 mod counter_file;
 mod event_log;
 mod last_realm;
+mod ledger_gate;
 mod left_log;
 mod lines;
 mod packet_words;
@@ -28,6 +29,7 @@ mod workers;
 pub use counter_file::{
     CounterTexts, FileFault, ReplaceFile, RuntimeFiles, find_counter_file, start_texts,
 };
+pub use ledger_gate::LedgerGate;
 pub use left_log::LeftLog;
 pub use packet_words::PacketWords;
 pub use reporter::{Reporter, StopFlag, report};

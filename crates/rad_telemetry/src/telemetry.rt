@@ -4,11 +4,13 @@ ghost use Rattle.std.specs.Prelude.{◌≡◌};
 
 use crate::counter_file::CounterTexts;
 use crate::event_log::EventLog;
+use crate::ledger_gate::LedgerGate;
 use crate::left_log::LeftLog;
 use crate::reporter::Reporter;
 use crate::sums::Sums;
 use crate::tracer::Tracer;
 use crate::workers::worker_name;
+use ledger_state::LedgerState;
 use rad_desk::{Asked, Call, Gate, Go, Ledger, Worker, WorkerReport};
 use rad_log::{Level, Log, logs_at, tell};
 use rad_metrics::{Classified, Numbers, worker_row};
@@ -69,6 +71,17 @@ impl<'a, L: Log, R: Clock> Telemetry<'a, L, R> {
             events: self.events.copy(),
             ledger,
             count: 0,
+        }
+    }
+
+    /// Makes a gate that also tells this ledger, if there is one, how requests are handled.
+    pub fn gate_of(&'a self, rt: &'a R, ledger: Option<&'a LedgerState>) -> LedgerGate<'a, L, R>
+        ensures { result.ledger ≡ ledger.entry }
+    {
+        LedgerGate {
+            rt,
+            telemetry: self,
+            ledger,
         }
     }
 

@@ -47,8 +47,9 @@ def backward(lane, home, steps):
 
 
 def changed(line, **keys):
-    """A line with other values at these keys; None takes a key away."""
-    return {key: value for key, value in {**line, **keys}.items() if value is not None}
+    """A line with other values at these keys; None takes a key away. Its sum stays last."""
+    made = {key: value for key, value in {**line, **keys}.items() if value is not None}
+    return {**{key: value for key, value in made.items() if key != "sum"}, **{key: made[key] for key in ["sum"] if key in made}}
 
 
 def told(lines, **keys):
@@ -298,7 +299,8 @@ def runs():
     yield "ends-of-other-counts-of-before", {"ledger": text([*lines[:-1], more, end])}, [told_of_more.replace(":12", ":11"), *contradicted], 9
     yield "an-end-that-is-contradicted-and-a-gap", {"ledger": text([*lines[:4], *lines[5:-1], changed(end, lanes=[{"lane": 0, "entries": 8}])])}, [
         f"ledger:5: run {NAME:016x} lane 0 h1 gap 3 to 3", counted(0, "h1", 0, 8, "contradicted")], 9
-    yield "a-file-behind-an-end", {"a": text(lines), "b": text([changed(lines[0], file=1)])}, [counted(0, "h1", 0, 9, "whole")], 0
+    yield "a-file-behind-an-end", {"a": text(lines), "b": text([changed(lines[0], file=1, lanes=[{**lines[0]["lanes"][0], "serial": 9}])])}, [counted(0, "h1", 0, 9, "whole")], 0
+    yield "a-file-behind-an-end-of-an-earlier-serial", {"a": text(lines), "b": text([changed(lines[0], file=1)])}, [counted(0, "h1", 0, 9, "whole")], 0
 
     run = two()
     lines = [run.begin(), run.entry(0), run.entry(1), run.entry(1), run.entry(0), run.end()]
@@ -334,7 +336,7 @@ def runs():
     all_three = {"a": text(first), "b": text(second), "c": text(third)}
     yield "three-files", all_three, [counted(0, "h1", 0, 3, "whole"), counted(1, "h2", 0, 2, "whole")], 0
     yield "three-files-in-another-order", {name: all_three[name] for name in ("b", "a", "c")}, [
-        "a:1: WrongSum", "a:2: SerialNotAbove", "a:3: SerialNotAbove", counted(0, "h1", 1, 2, "part"), counted(1, "h2", 1, 1, "part")], 5
+        "a:1: FileAgain", "a:2: SerialNotAbove", "a:3: SerialNotAbove", counted(0, "h1", 1, 2, "part"), counted(1, "h2", 1, 1, "part")], 5
     yield "the-middle-file-left-out", {name: all_three[name] for name in ("a", "c")}, [
         f"c:1: run {NAME:016x} files 1 to 1 missing", f"c:2: run {NAME:016x} lane 0 h1 gap 1 to 1", f"c:3: run {NAME:016x} lane 1 h2 gap 1 to 1",
         counted(0, "h1", 0, 2, "gap 1 to 1"), counted(1, "h2", 0, 1, "gap 1 to 1")], 8
@@ -344,7 +346,7 @@ def runs():
     yield "the-greatest-file", {"a": text(first), "b": text([changed(second[0], file=2**64 - 1)] * 2)}, [
         f"b:1: run {NAME:016x} files 1 to {2**64 - 2} missing", counted(0, "h1", 0, 1, "open"), counted(1, "h2", 0, 1, "open")], 8
     yield "the-same-file-twice", {"a": all_three["a"], "b": all_three["a"]}, [
-        "b:1: WrongSum", "b:2: SerialNotAbove", "b:3: SerialNotAbove", counted(0, "h1", 0, 1, "open"), counted(1, "h2", 0, 1, "open")], 5
+        "b:1: FileAgain", "b:2: SerialNotAbove", "b:3: SerialNotAbove", counted(0, "h1", 0, 1, "open"), counted(1, "h2", 0, 1, "open")], 5
     behind = {**all_three, "c": text([third[0], changed(third[2], lanes=[{"lane": 0, "entries": 4}, {"lane": 1, "entries": 3}])])}
     yield "gaps-of-two-lanes", behind, [
         f"c:2: run {NAME:016x} lane 0 h1 gap 2 to 3", f"c:2: run {NAME:016x} lane 1 h2 gap 2 to 2",
@@ -354,6 +356,7 @@ def runs():
     aside = Run(NAME - 1, [Lane(3, "h2", OTHER, 7), Lane(1, "h1", HOME, 2)])
     woven = [aside.begin(), first[0], aside.entry(0), *first[1:], aside.entry(1), *second[1:], aside.entry(1), third[1], aside.end(), third[2]]
     yield "two-runs-side-by-side", {"ledger": text(woven)}, [
+        f"ledger:2: run {NAME:016x} behind another run",
         counted(3, "h2", 7, 1, "part", run=NAME - 1), counted(1, "h1", 2, 2, "part", run=NAME - 1),
         counted(0, "h1", 0, 3, "whole"), counted(1, "h2", 0, 2, "whole")], 7
 
@@ -367,7 +370,7 @@ def runs():
 
     other = Run(NAME + 1, [Lane(0, "h1", HOME)])
     mixed = [*lines_of(one(), 2), *lines_of(other, 1)]
-    yield "two-runs", {"ledger": text(mixed)}, [counted(0, "h1", 0, 2, "whole"), counted(0, "h1", 0, 1, "whole", run=NAME + 1)], 0
+    yield "two-runs", {"ledger": text(mixed)}, [f"ledger:5: run {NAME + 1:016x} behind another run", counted(0, "h1", 0, 2, "whole"), counted(0, "h1", 0, 1, "whole", run=NAME + 1)], 0
 
     lines = lines_of(one(), 3)
     whole = counted(0, "h1", 0, 3, "whole")

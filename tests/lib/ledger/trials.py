@@ -1,5 +1,4 @@
 """A program that writes a ledger, with both of its sides, and a time of day that is set while it runs."""
-import hashlib
 import json
 import pathlib
 import re
@@ -11,6 +10,7 @@ from datetime import UTC, datetime
 
 from tests.lib import (ACCT_SESSION_ID, HERE, HOME_SECRET, NAS_SECRET, START, Proxy, answer, attribute, audit_model, bound, built,
                        configuration, environment, free_port, hope, request, until)
+from tests.lib.ledgers import sum_after
 
 PATIENCE = 60
 TOLD = re.compile("level=info event=ledger-file run=([0-9a-f]{16}) file=([0-9]+) entries=([0-9]+) sum=([0-9a-f]{64})")
@@ -112,14 +112,13 @@ class Trial(Proxy):
         return [line for line in self.ledger_lines(files) if line["type"] == "entry"]
 
     def sums(self, files=None):
-        """The sum behind all lines of the run. Each line that begins a file or ends the run has the one before it."""
+        """The sum of the run's last whole line. Each line has that of its own octets behind the one before, over all files."""
         before = bytes(32)
         for file in files or self.files():
             for line in file.read_bytes().split(b"\n")[:-1]:
-                told = read_line(file, line)
-                if told["type"] in ("begin", "end"):
-                    hope("a sum", told["sum"], before.hex())
-                before = hashlib.sha256(before + hashlib.sha256(line + b"\n").digest()).digest()
+                body, told = last_key(file, line)
+                before = sum_after(before, body)
+                hope("the sum of a line", told, before.hex())
         return before.hex()
 
     def told_sums(self):
@@ -135,6 +134,8 @@ class Trial(Proxy):
     def verdict(self, files=None):
         """What the auditor says of the one lane, and its findings before."""
         audit = audit_model.Audit(tomllib.loads(self.file.read_text()))
+        for file in files or self.files():
+            audit.look_ahead(file.read_bytes())
         for file in files or self.files():
             audit.read(file.name, file.read_bytes())
         audit.end()
@@ -193,6 +194,17 @@ class Trial(Proxy):
         subprocess.run(["umount", "-q", str(self.folder)], check=False, stderr=subprocess.DEVNULL)
 
 
+TAIL = re.compile(rb',"sum":"([0-9a-f]{64})"\}')
+
+
+def last_key(file, line):
+    """What stands in a line before its sum, and the sum, which is the last of its keys."""
+    tail = TAIL.fullmatch(line, max(len(line) - 74, 0))
+    if tail is None:
+        raise AssertionError(f"{file.name} has a line without a sum: {line[:60]!r}")
+    return line[:tail.start()], tail[1].decode()
+
+
 def read_line(file, line):
     """What a line of a file has."""
     try:
@@ -201,7 +213,8 @@ def read_line(file, line):
         raise AssertionError(f"{file.name} has a line that is no JSON: {line[:60]!r}") from fault
 
 
-REASONS = {"NotEntry", "NoPacket", "WrongSent", "WrongRequest", "WrongReply", "WrongResponse", "SerialNotAbove", "UnknownLane", "RecordTwice", "WrongWords", "WrongSum"}
+REASONS = {"NotEntry", "NoPacket", "WrongSent", "WrongRequest", "WrongReply", "WrongResponse", "SerialNotAbove", "UnknownLane", "RecordTwice", "UnknownRecord", "WrongWords",
+           "FileAgain", "OtherLanes", "WrongSum"}
 
 
 class Steered:

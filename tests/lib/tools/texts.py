@@ -56,6 +56,12 @@ def radsecproxy():
     yield "a secret of 128 octets and one of 129", (
         R + R_REALM + "".join(f"client 10.0.0.{size} {{\n type udp\n secret {'x' * size}\n}}\n" for size in (128, 129))), (
         [(17, "129 octets")]), clients(("10.0.0.128", "x" * 128))
+    alike = ((1, "+"), (2, "~"), (3, "@"))
+    yield "three names that become one", R + R_REALM + "".join(
+        f"server h{sign}a {{\n type udp\n host 192.0.2.1{number}:1813\n secret s{number}\n}}\nrealm r{number}.example {{\n accountingServer h{sign}a\n}}\n"
+        for number, sign in alike), [], WHOLE | {
+        "home": HOME + [(name, f"192.0.2.1{number}:1813", f"s{number}") for number, name in ((1, "h-a"), (2, "h-a-2"), (3, "h-a-3"))],
+        "realm": REALM + [("r1.example", "h-a"), ("r2.example", "h-a-2"), ("r3.example", "h-a-3")]}
     yield "the port that radsecproxy sends to", R.replace(":1813", "") + R_REALM, [], WHOLE | {"home": [("h", "192.0.2.9:1812", "def")]}
     yield "a port of its own", R.replace(":1813", "\n port 1900") + R_REALM, [], WHOLE | {"home": [("h", "192.0.2.9:1900", "def")]}
     yield "no port", R.replace(":1813", ":70000") + R_REALM, [(7, "no number"), (11, "h is not carried over")], None

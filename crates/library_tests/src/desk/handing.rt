@@ -6,7 +6,7 @@ use crate::desk::left::live;
 use crate::desk::setting::{TEXT, start};
 use crate::desk::threads::close;
 use rad_desk::{
-    Call, Delivery, Gate, Go, Inlet, Ledger, LeftRecord, Proxy, Received, Wire, Worker,
+    Call, Delivery, Entrance, Gate, Go, Inlet, Ledger, LeftRecord, Proxy, Received, Wire, Worker,
     front_worker_with, open,
 };
 use rad_lane::Outgoing;
@@ -124,6 +124,7 @@ fn hands_over(
         inlets,
         &mut wire,
         &mut ledger,
+        &mut Entrance::new(),
         &Willing,
         2,
     );

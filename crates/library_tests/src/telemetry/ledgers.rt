@@ -167,7 +167,8 @@ fn dropped_of(reading: &LedgerReading<'_>, client: usize) -> Option<u64> {
 }
 
 /// Returns whether the entries of these steps are counted, and whether the oldest one has its age, which is that of the first
-/// one that was put while none waited, and 0 if the clock went back and if there is none; and so of what is not synced.
+/// one that was put while none waited, and 0 if the clock went back and if there is none; and so of what is not synced, which is
+/// at least as old.
 fn is_counted(ledger: &LedgerState) -> bool {
     let reading = ledger.reading(9_000);
     ledger.set_oldest(Some(8_433));
@@ -179,6 +180,9 @@ fn is_counted(ledger: &LedgerState) -> bool {
     let unsynced = ledger.reading(9_000).unsynced;
     ledger.set_unsynced(None);
     let synced = ledger.reading(9_000).unsynced;
+    ledger.set_oldest(Some(7_000));
+    let waits = ledger.reading(9_000).unsynced;
+    ledger.set_oldest(None);
     reading.written == 3
         && reading.waiting == 1
         && reading.dropped == 3
@@ -192,6 +196,7 @@ fn is_counted(ledger: &LedgerState) -> bool {
         && without == 0
         && unsynced == 1000
         && synced == 0
+        && waits == 2000
 }
 
 /// Returns whether each lane has what was handed over of it and, once it is told how many requests it accepted, how many of
@@ -211,7 +216,7 @@ fn are_lanes_counted(ledger: &LedgerState) -> bool {
 
 /// Lets all steps happen to a ledger of two lanes, and returns whether exactly these lines are logged.
 fn tells(rt: &impl Clock, alloc: Global, log: &MemoryLog, expected: &str) -> Result<bool, Fail> {
-    let ledger = LedgerState::new(alloc, 2, 2)?;
+    let ledger = LedgerState::new(alloc, &[2, 2], 2)?;
     for next in STEPS {
         happen(rt, &ledger, log, *next);
     }

@@ -8,7 +8,7 @@ use super::working::Service;
 use crate::console::{Console, attend};
 use crate::faults::ServeFault;
 use crate::wires::Wires;
-use rad_desk::Inlet;
+use rad_desk::{Entrance, Inlet};
 use rad_tables::Moment;
 use std::io::{Read, Write};
 use std::thread::{self, JoinHandle, Scope};
@@ -93,7 +93,8 @@ where
             let mut inlets = inlets;
             let mut wire = wire;
             let mut ledger = ledger;
-            service.work_in_front(inlets.as_mut_slice(), &mut wire, &mut ledger);
+            let mut entrance = Entrance::new();
+            service.work_in_front(inlets.as_mut_slice(), &mut wire, &mut ledger, &mut entrance);
             FrontEnd {
                 inlets,
                 ledger,

@@ -1,4 +1,4 @@
-use Rattle.std.proofs.Common.{◌≡◌, ℕ, suc, ◌+◌, ◌-◌, refl, arith}
+use Rattle.std.proofs.Common.{◌≡◌, ℕ, suc, ◌+◌, refl, arith}
 use Rattle.ledger_files.proofs.Years.{next_year}
 use Rattle.ledger_files.proofs.Dates.{split, year_from_march, march_first, last_is_leap, late, early}
 use Rattle.ledger_files.proofs.utc.date_of.Goals as goal

@@ -13,11 +13,11 @@ returns-in_err-version c = part _ _ _ c.from_residual-in_err-version.result c.in
 pub returns-in_err-file : goal.returns-in_err-file
 returns-in_err-file c = part _ _ _ c.from_residual-in_err-file.result c.in_err-file.field-0.0 c.from_residual-in_err-file.ensures.1 c.in_err-file.ensures (λ p. (p.0.file, p.1.file))
 
-pub returns-in_err-sum : goal.returns-in_err-sum
-returns-in_err-sum c = part _ _ _ c.from_residual-in_err-sum.result c.in_err-sum.field-0.0 c.from_residual-in_err-sum.ensures.1 c.in_err-sum.ensures (λ p. (p.0.sum, p.1.sum))
-
 pub returns-in_err-before : goal.returns-in_err-before
 returns-in_err-before c = part _ _ _ c.from_residual-in_err-before.result c.in_err-before.field-0.0 c.from_residual-in_err-before.ensures.1 c.in_err-before.ensures (λ p. (p.0.before, p.1.before))
 
 pub returns-in_err-lanes : goal.returns-in_err-lanes
 returns-in_err-lanes c = part _ _ _ c.from_residual-in_err-lanes.result c.in_err-lanes.field-0.0 c.from_residual-in_err-lanes.ensures.1 c.in_err-lanes.ensures (λ p. (p.0.lanes.items, p.1.lanes))
+
+pub returns-in_err-hidden : goal.returns-in_err-hidden
+returns-in_err-hidden c = part _ _ _ c.from_residual-in_err-hidden.result c.in_err-hidden.field-0.0 c.from_residual-in_err-hidden.ensures.1 c.in_err-hidden.ensures (λ p. (p.0.hidden, p.1.hidden))

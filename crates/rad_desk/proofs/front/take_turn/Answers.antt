@@ -1,21 +1,40 @@
-use Rattle.std.proofs.Common.{◌+◌, length, arith}
-use Rattle.rad_desk.proofs.CallsJoined.{most_join, most_more}
+use Rattle.std.proofs.Common.{◌≡◌, ◌+◌, Bool, true, false, List, Option, length, arith, subst}
+use Rattle.rad_realms.specs.Configuration.{Configuration}
+use Rattle.rad_desk.specs.Traffic.{Event}
+use Rattle.rad_desk.specs.Calls.{Passes}
+use Rattle.rad_desk.specs.Handling.{Outcome}
+use Rattle.rad_desk.specs.Once.{TakesIn, TakesInOnce, IsLeftUntaken}
+use Rattle.rad_desk.proofs.CallsJoined.{passes_widen, most_join, most_more}
 use Rattle.rad_desk.proofs.FrontWork.{most_taken}
-use Rattle.rad_desk.proofs.HandOver.{over_join, over_by_taking}
+use Rattle.rad_desk.proofs.HandOver.{over_join, over_by_taking, over_stopped, does_or_stops, stops_here}
 use Rattle.rad_desk.proofs.front.take_turn.Goals as goal
+
+-- where something was taken in, the front goes on; else it is stopped
+goes_on : (config : Configuration) (before after : List Outcome) (is : Bool) (old new : Option (List Event)) → is ≡ true → Passes (TakesInOnce is config before after) old new → Passes (TakesIn config before after) old new
+goes_on config before after is old new holds = subst (λ b. Passes (TakesInOnce b config before after) old new) holds
+
+stops : (config : Configuration) (before after : List Outcome) (is : Bool) (old new : Option (List Event)) → is ≡ false → Passes (TakesInOnce is config before after) old new → Passes (TakesInOnce false config before after) old new
+stops config before after is old new fails = subst (λ b. Passes (TakesInOnce b config before after) old new) fails
+
+left : (config : Configuration) (before after : List Outcome) (old new : Option (List Event)) → Passes (TakesInOnce false config before after) old new → Passes (IsLeftUntaken config) old new
+left config before after = passes_widen (TakesInOnce false config before after) (IsLeftUntaken config) (λ events stopped. stopped.0)
 
 pub returns-then-take_in-clause-hands_over : goal.returns-then-take_in-clause-hands_over
 returns-then-take_in-clause-hands_over g c =
-    over_join _ _ _ _ _ _ _ _ _ _ (over_by_taking _ _ _ _ _ c.take_in.ensures.sends) (c.hand_out.ensures.hands_over _)
+    does_or_stops _ _ _ _ _
+    (over_join _ _ _ _ _ _ _ _ _ _ _ _ _ (over_by_taking _ _ _ _ _ _ c.take_in.ensures.kept _ _ (goes_on _ _ _ _ _ _ c.if-take_in.true c.take_in.ensures.takes_in))
+    (c.hand_out.ensures.hands_over _ _))
 
 pub returns-else-take_in-clause-hands_over : goal.returns-else-take_in-clause-hands_over
-returns-else-take_in-clause-hands_over g c = over_by_taking _ _ _ _ _ c.take_in.ensures.sends
+returns-else-take_in-clause-hands_over g c =
+    let stopped = stops _ _ _ _ _ _ c.if-take_in.false c.take_in.ensures.takes_in in
+    stops_here c.args.config.now _ _ _ _ c.if-take_in.false (over_stopped _ _ _ _ _ _ stopped.right.1 c.take_in.ensures.kept _ _ (left _ _ _ _ _ stopped))
 
 pub returns-then-take_in-clause-made : goal.returns-then-take_in-clause-made
 returns-then-take_in-clause-made g c =
     let inlets = c.args.inlets.now in
-    most_join 1 1 0 (length inlets) 1 (1 + length inlets) (omega arith) (omega arith) _ _ _ (most_taken _ _ _ c.take_in.ensures.sends) c.hand_out.ensures.sends
+    most_join 1 1 0 (length inlets) 1 (1 + length inlets) (omega arith) (omega arith) _ _ _ (most_taken _ _ _ _ _ _ c.take_in.ensures.takes_in) c.hand_out.ensures.sends
 
 pub returns-else-take_in-clause-made : goal.returns-else-take_in-clause-made
 returns-else-take_in-clause-made g c =
-    most_more 1 1 1 (1 + length c.args.inlets.now) (omega arith) (omega arith) _ _ (most_taken _ _ _ c.take_in.ensures.sends)
+    most_more 1 1 1 (1 + length c.args.inlets.now) (omega arith) (omega arith) _ _ (most_taken _ _ _ _ _ _ c.take_in.ensures.takes_in)

@@ -54,8 +54,8 @@ returns-then-size-ge-SIZE g c = λ before has lines run.
       runs = so.runs;
     }
 
-pub returns-in_err-line : goal.returns-in_err-line
-returns-in_err-line g c = λ before has lines run.
+pub returns-in_err-body : goal.returns-in_err-body
+returns-in_err-body g c = λ before has lines run.
     let so = (c.loop-made.invariant.fills before has lines run).0 in
     record {
       more = so.more;
@@ -90,10 +90,10 @@ loop-made-preserved g c = record {
       let one : Taken = held_as parcel.head c.take.new.self.room.items in
       let line = c.as_slice.result.now in
       let taken : HasPassed c.take.new.self (before ++ so.more) = taken_next c.loop-made.self.entries c.take.new.self (before ++ so.more) c.take.ensures.takes so.passed in
-      let behind_nothing : HasParcelBehind c.loop-made.self.names parcel [] c.in_ok-line.line.items =
-      subst (λ out. HasParcelBehind c.loop-made.self.names parcel out c.in_ok-line.line.items) c.clear-in-loop-made.ensures.items c.in_ok-line.ensures.value in
-      let named : HasParcelBehind c.args.self.now.names parcel [] c.in_ok-line.line.items =
-      subst (λ names. HasParcelBehind names parcel [] c.in_ok-line.line.items) c.loop-made.invariant.names behind_nothing in
+      let behind_nothing : HasParcelBehind c.loop-made.self.names parcel [] c.in_ok-body.body.items =
+      subst (λ out. HasParcelBehind c.loop-made.self.names parcel out c.in_ok-body.body.items) c.clear-in-loop-made.ensures.items c.in_ok-body.ensures.value in
+      let named : HasParcelBehind c.args.self.now.names parcel [] c.in_ok-body.body.items =
+      subst (λ names. HasParcelBehind names parcel [] c.in_ok-body.body.items) c.loop-made.invariant.names behind_nothing in
       let is : IsLineOf c.args.self.now.names one line =
       record { parcel = parcel; packets = holds.packets; is = subst (HasParcelBehind c.args.self.now.names parcel []) (sym c.as_slice.ensures.value) named } in
       let within : day_at one ≤ c.if-made-eq0.day = omega (arith, c.if-day_of-day.false, c.day_of-else-size-ge-SIZE.ensures) in

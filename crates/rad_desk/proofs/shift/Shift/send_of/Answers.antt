@@ -6,10 +6,10 @@ use Rattle.rad_desk.proofs.shift.Shift.send_of.Goals as goal
 
 pub returns-in-Sent-clause-sends : goal.returns-in-Sent-clause-sends
 returns-in-Sent-clause-sends g c =
-    passes_one (IsSent c.args.socket c.args.to c.args.octets.now) (departed c.args.socket c.args.to c.args.octets.now c.send.result) _ _
-    (record { delivery = c.send.result; is = refl }) c.send.ensures
+    passes_one (IsSent c.args.socket c.args.to c.args.octets.now) (departed c.args.socket c.args.to c.args.octets.now c.send-delivery.result) _ _
+    (record { delivery = c.send-delivery.result; is = refl }) c.send-delivery.ensures
 
 pub returns-in-Fault-clause-sends : goal.returns-in-Fault-clause-sends
 returns-in-Fault-clause-sends g c =
-    passes_one (IsSent c.args.socket c.args.to c.args.octets.now) (departed c.args.socket c.args.to c.args.octets.now c.send.result) _ _
-    (record { delivery = c.send.result; is = refl }) c.send.ensures
+    passes_one (IsSent c.args.socket c.args.to c.args.octets.now) (departed c.args.socket c.args.to c.args.octets.now c.send-delivery.result) _ _
+    (record { delivery = c.send-delivery.result; is = refl }) c.send-delivery.ensures

@@ -1,0 +1,10 @@
+pub mod AppendLemmas
+pub mod BatchLemmas
+pub mod CallLemmas
+pub mod CrashLemmas
+pub mod EntryLemmas
+pub mod FieldLemmas
+pub mod HeadLemmas
+pub mod MomentLemmas
+pub mod PlaceLemmas
+pub mod Rows

@@ -1,0 +1,9 @@
+pub mod Batches
+pub mod Calls
+pub mod CheckSums
+pub mod Devices
+pub mod Entries
+pub mod Logged
+pub mod Places
+pub mod Segments
+pub mod internal

@@ -1,0 +1,213 @@
+//! The heads of entries, read and written.
+
+ghost use Rattle.std.specs.Prelude.{◌≡◌, ◌++◌, OnOk};
+ghost use Rattle.std.specs.Option.{option_map};
+ghost use Rattle.std.specs.Int.{w64, to_be_bytes};
+ghost use Rattle.spool_files.specs.Entries.{key_octets, address_octets, begun_octets, came_octets, answered_octets};
+ghost use Rattle.spool_files.specs.Entries.{given_up_octets, head_octets, origin_octets, number_octets};
+ghost use Rattle.spool_files.specs.internal.Fields.{begun_at, came_at, answered_at, given_up_at, head_at};
+
+use crate::entry::{Answered, Begun, Came, GivenUp, Head, LocalAddress};
+use crate::fields::{address_of, first_of, key_of, u16_of, u64_of};
+use rad_tables::Key;
+use std::alloc::AllocError;
+
+#[tactic(auto, unfolding(crate::specs::internal::Fields::begun_at))]
+fn begun_of(octets: &[u8]) -> Option<(Begun, &[u8])>
+    ensures { option_map (λ x. (x.0, x.1.now)) result ≡ begun_at octets.now }
+{
+    let (version, rest) = u16_of(octets)?;
+    let (run, rest) = u64_of(rest)?;
+    let (number, rest) = u64_of(rest)?;
+    let begun = Begun {
+        version,
+        run,
+        number,
+    };
+    Some((begun, rest))
+}
+
+#[tactic(auto, unfolding(crate::specs::internal::Fields::came_at))]
+fn came_of(octets: &[u8]) -> Option<(Came, &[u8])>
+    ensures { option_map (λ x. (x.0, x.1.now)) result ≡ came_at octets.now }
+{
+    let (key, rest) = key_of(octets)?;
+    let (ours, rest) = address_of(rest)?;
+    let (arrival, rest) = u64_of(rest)?;
+    let (run, rest) = u64_of(rest)?;
+    let (lane, rest) = u16_of(rest)?;
+    let (number, rest) = u64_of(rest)?;
+    let (moment, rest) = u64_of(rest)?;
+    let came = Came {
+        key,
+        ours,
+        arrival,
+        run,
+        lane,
+        number,
+        moment,
+    };
+    Some((came, rest))
+}
+
+#[tactic(auto, unfolding(crate::specs::internal::Fields::answered_at))]
+fn answered_of(octets: &[u8]) -> Option<(Answered, &[u8])>
+    ensures { option_map (λ x. (x.0, x.1.now)) result ≡ answered_at octets.now }
+{
+    let (key, rest) = key_of(octets)?;
+    let (run, rest) = u64_of(rest)?;
+    let (lane, rest) = u16_of(rest)?;
+    let (serial, rest) = u64_of(rest)?;
+    let (moment, rest) = u64_of(rest)?;
+    let answered = Answered {
+        key,
+        run,
+        lane,
+        serial,
+        moment,
+    };
+    Some((answered, rest))
+}
+
+#[tactic(auto, unfolding(crate::specs::internal::Fields::given_up_at))]
+fn given_up_of(octets: &[u8]) -> Option<(GivenUp, &[u8])>
+    ensures { option_map (λ x. (x.0, x.1.now)) result ≡ given_up_at octets.now }
+{
+    let (key, rest) = key_of(octets)?;
+    let (moment, rest) = u64_of(rest)?;
+    Some((GivenUp { key, moment }, rest))
+}
+
+/// Reads a head from the front, and returns it with the octets behind it.
+#[tactic(auto, unfolding(crate::specs::internal::Fields::head_at))]
+pub(crate) fn head_of(octets: &[u8]) -> Option<(Head, &[u8])>
+    ensures { option_map (λ x. (x.0, x.1.now)) result ≡ head_at octets.now }
+{
+    let (kind, rest) = first_of(octets)?;
+    match kind {
+        1 => {
+            let (begun, rest) = begun_of(rest)?;
+            Some((Head::Begun(begun), rest))
+        }
+        2 => {
+            let (came, rest) = came_of(rest)?;
+            Some((Head::Came(came), rest))
+        }
+        3 => {
+            let (answered, rest) = answered_of(rest)?;
+            Some((Head::Answered(answered), rest))
+        }
+        4 => {
+            let (given_up, rest) = given_up_of(rest)?;
+            Some((Head::GivenUp(given_up), rest))
+        }
+        _ => None,
+    }
+}
+
+fn put_key(octets: &mut Vec<u8>, key: &Key) -> Result<(), AllocError>
+    ensures { OnOk result (octets.new.items ≡ octets.old.items ++ key_octets key.now) }
+{
+    octets.extend_from_slice(&key.authenticator)?;
+    octets.extend_from_slice(&key.client)?;
+    octets.extend_from_slice(&key.port.to_be_bytes())?;
+    octets.push(key.identifier)?;
+    Ok(())
+}
+
+fn put_address(octets: &mut Vec<u8>, address: &LocalAddress) -> Result<(), AllocError>
+    ensures { OnOk result (octets.new.items ≡ octets.old.items ++ address_octets address.now) }
+{
+    octets.extend_from_slice(&address.address)?;
+    octets.extend_from_slice(&address.port.to_be_bytes())
+}
+
+fn put_u64(octets: &mut Vec<u8>, number: u64) -> Result<(), AllocError>
+    ensures { OnOk result (octets.new.items ≡ octets.old.items ++ to_be_bytes w64 number) }
+{
+    octets.extend_from_slice(&number.to_be_bytes())
+}
+
+fn put_begun(octets: &mut Vec<u8>, begun: &Begun) -> Result<(), AllocError>
+    ensures { OnOk result (octets.new.items ≡ octets.old.items ++ begun_octets begun.now) }
+{
+    octets.extend_from_slice(&begun.version.to_be_bytes())?;
+    put_u64(octets, begun.run)?;
+    put_u64(octets, begun.number)
+}
+
+/// Puts which run and lane an entry is of, its number or serial there, and its moment.
+fn put_origin(
+    octets: &mut Vec<u8>,
+    run: u64,
+    lane: u16,
+    number: u64,
+    moment: u64,
+) -> Result<(), AllocError>
+    ensures { OnOk result (octets.new.items ≡ octets.old.items ++ origin_octets run lane number moment) }
+{
+    put_u64(octets, run)?;
+    octets.extend_from_slice(&lane.to_be_bytes())?;
+    put_u64(octets, number)?;
+    put_u64(octets, moment)
+}
+
+/// Puts the numbers of a request, behind its key and address.
+fn put_numbers(octets: &mut Vec<u8>, came: &Came) -> Result<(), AllocError>
+    ensures { OnOk result (octets.new.items ≡ octets.old.items ++ number_octets came.now) }
+{
+    put_u64(octets, came.arrival)?;
+    put_origin(octets, came.run, came.lane, came.number, came.moment)
+}
+
+fn put_came(octets: &mut Vec<u8>, came: &Came) -> Result<(), AllocError>
+    ensures { OnOk result (octets.new.items ≡ octets.old.items ++ came_octets came.now) }
+{
+    put_key(octets, &came.key)?;
+    put_address(octets, &came.ours)?;
+    put_numbers(octets, came)
+}
+
+fn put_answered(octets: &mut Vec<u8>, answered: &Answered) -> Result<(), AllocError>
+    ensures { OnOk result (octets.new.items ≡ octets.old.items ++ answered_octets answered.now) }
+{
+    put_key(octets, &answered.key)?;
+    put_origin(
+        octets,
+        answered.run,
+        answered.lane,
+        answered.serial,
+        answered.moment,
+    )
+}
+
+fn put_given_up(octets: &mut Vec<u8>, given_up: &GivenUp) -> Result<(), AllocError>
+    ensures { OnOk result (octets.new.items ≡ octets.old.items ++ given_up_octets given_up.now) }
+{
+    put_key(octets, &given_up.key)?;
+    put_u64(octets, given_up.moment)
+}
+
+/// Puts a head behind the octets.
+pub(crate) fn put_head(octets: &mut Vec<u8>, head: &Head) -> Result<(), AllocError>
+    ensures { OnOk result (octets.new.items ≡ octets.old.items ++ head_octets head.now) }
+{
+    match head {
+        Head::Begun(begun) => {
+            octets.push(1)?;
+            put_begun(octets, begun)
+        }
+        Head::Came(came) => {
+            octets.push(2)?;
+            put_came(octets, came)
+        }
+        Head::Answered(answered) => {
+            octets.push(3)?;
+            put_answered(octets, answered)
+        }
+        Head::GivenUp(given_up) => {
+            octets.push(4)?;
+            put_given_up(octets, given_up)
+        }
+    }
+}
