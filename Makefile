@@ -18,11 +18,15 @@ DATAGRAMS ?= 100000
 SECONDS ?= 60
 SEED ?= 1
 
+# How many changes `make mutants` tries.
+COUNT ?= 100
+
 # How many seeds `make simulate` runs of the simulation, from which one on.
 SEEDS ?= 1000
 FIRST ?= 1
 
-.PHONY: help build run serve replay test edits scripts definitions simulate growths spoiled soak cluster bench figures bench-queue
+.PHONY: help build run serve replay test edits mutants scripts definitions simulate growths spoiled soak cluster bench figures bench-queue \
+	bench-spool
 
 # What `make` alone does: the line above each target that is called by hand.
 help:
@@ -73,6 +77,12 @@ test:
 #: edits       more edits that the prover has to refuse; CRATES="rad_lane" names crates
 edits:
 	@$(TESTS).gate.edits $(if $(ALONE),--alone) $(CRATES)
+
+# Of the crates, and folders of tools, whose functions mostly have no contract. The first run makes the program that has all changes.
+#: mutants     COUNT single changes by SEED where no contract sees them; prints what no script sees in SECONDS; CRATES="rad_log ledger"
+mutants: SECONDS = 600
+mutants:
+	@$(TESTS).gate.mutants $(COUNT) $(SEED) $(SECONDS) $(CRATES)
 
 #: scripts     lists the scripts of tests/, with what each does
 scripts:
@@ -147,6 +157,12 @@ figures:
 #: bench-queue measures the queue of blocks beside std's `VecDeque`
 bench-queue:
 	@python3 bench/queue/run.py
+
+# Records a second into a spool beside those of a plain C program, and what reading a million open ones takes, by the tests of the crate
+# that were built. FOLDER says on which file system.
+#: bench-spool measures the files of a spool beside a plain C program
+bench-spool:
+	@python3 -m bench.spool crates/spool_files/out/spool_files_tests $(FOLDER)
 
 # Where `make install` puts things. DESTDIR stands before each of them.
 VERSION := $(shell sed -n 's/^VERSION = "\(.*\)"$$/\1/p' tools/version.py)

@@ -25,6 +25,7 @@ NUMBERS = {
     "block_queue/src/block_queue.rt": {"MOST": ("0x8000_0000_0000_0000", PROVED)},
     "spool_files/src/check_sum.rt": {"POLYNOMIAL": ("0xedb8_8320", PROVED)},
     "spool_files/src/folder.rt": {"MODE": ("0o600", FORM), "FOLDER_MODE": ("0o700", FORM), "DIGITS": ("16", FORM)},
+    "spool_files/src/reading.rt": {"VERSION": ("1", PROVED)},
     "spool_files/src/segment.rt": {"MOST_OCTETS": ("1 << 24", PROVED), "BESIDE": ("10", PROVED)},
     "spool_files/src/tests.rt": {"BATCHES": ("40", CHOICE)},
     "ledger_files/src/batch.rt": {"SHARED": ("65_536", CHOICE), "LONG": ("2048", CHOICE), "THREADS": ("3", CHOICE)},
@@ -130,7 +131,10 @@ NUMBERS = {
     "rad_telemetry/src/tracer.rt": {"MOST_LINES": ("200", PROVED), "SECOND": ("1_000_000", PROVED)},
     "rad_telemetry/src/reporter.rt": {"PERIOD": ("1000", "timing/metrics_over_time TESTS"), "ASKED": ("40", CHOICE)},
     "ledger_writer/src/filling.rt": {"SIZE": ("262_144", CHOICE), "LINES": ("1024", CHOICE)},
-    "ledger_writer/src/inlet.rt": {"LOOK": ("1", CHOICE)},
+    "ledger_writer/src/inlet.rt": {"LOOK": ("1", CHOICE), "DUE": ("16", CHOICE), "MOST_LOST": ("256", FORM)},
+    "ledger_writer/src/record_counts.rt": {
+        "PAUSE": ("5000", "ledger/written_lines what_is_sent_again_is_counted"), "MOST": ("65_536", CHOICE)},
+    "ledger_state/src/responses.rt": {"MOST": ("4096", CHOICE)},
     "ledger_writer/src/lines.rt": {"GREATEST_SERIAL": ("9_223_372_036_854_775_807", PROVED)},
     "ledger_writer/src/file_before.rt": {
         "END_OCTETS": ("2 * (MOST_LINE_OCTETS + 1)", "ledger/written_ledgers the_tie_is_found_at_the_end_of_any_file"), "RUN_DIGITS": ("16", "ledger/written_ledgers names_the_file_of_another_run_before"),

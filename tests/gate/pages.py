@@ -34,9 +34,10 @@ FOLDERS = {
     "lib/cluster": "what those of `cluster/` share",
     "lib/tables": "what those of `configuration/` share",
     "lib/spool": "segments of a spool, by another hand",
+    "lib/mutants": "single changes of sources, and the programs that have them",
 }
 # Folders of what is no script. The list leaves out what is in them.
-SHARED = ("preload", "lib", "lib/always", "lib/ledger", "lib/tools", "lib/cluster", "lib/tables", "lib/spool")
+SHARED = ("preload", "lib", "lib/always", "lib/ledger", "lib/tools", "lib/cluster", "lib/tables", "lib/spool", "lib/mutants")
 MOST_OF_A_FOLDER = 15
 
 

@@ -7,6 +7,7 @@ from tests.lib import TOP
 PROGRAM = "PROGRAM"
 SIMULATION, AUDITOR, CONFIG_JSON = (f"crates/{name}/out/{name}" for name in ("rad_simulation", "rad_audit", "config_json"))
 QUEUE_TESTS = "crates/library_tests/out/library_tests_tests"
+SPOOL_TESTS = "crates/spool_files/out/spool_files_tests"
 
 
 @dataclass(frozen=True)
@@ -47,6 +48,7 @@ SCRIPTS = [
     Script("gate/drawings", "--check"),
     Script("gate/limits", "--check"),
     Script("gate/unproved", "--check"),
+    Script("gate/mutants", "--check"),
     Script("models/vectors", "--check"),
     Script("models/replay_model", "--check"),
     Script("models/example_ledgers", "--check"),
@@ -67,6 +69,7 @@ SCRIPTS = [
     Script("faults/failing_calls"),
     Script("faults/closed_descriptors"),
     Script("faults/queue_memory", QUEUE_TESTS),
+    Script("faults/spool_crashes", SPOOL_TESTS),
     Script("faults/exit_reasons"),
     Script("faults/stdin_and_stdout"),
     Script("network/several_addresses"),
@@ -115,6 +118,7 @@ SCRIPTS = [
     Script("tools/judge"),
     Script("tools/trial", is_alone=True),
     Script("tools/moving"),
+    Script("tools/stopped"),
     Script("tools/advised"),
     Script("ledger/left", is_alone=True),
     Script("cluster/keepalived", is_alone=True),

@@ -313,7 +313,8 @@ def a_clock_that_is_set_moves_the_times(trial):
 
 
 def what_the_system_refuses_to_send_is_counted_apart(trial):
-    """What is sent less what the system refused is what came to the home server, and to the client."""
+    """What is sent less what the system refused is what came to the home server, and to the client. The ledger counts what it refused, and
+    what was sent again, of each record."""
     trial.begin(LD_PRELOAD=built(trial.room, "failing_sockets"), SEND_FAULTS="3")
     waiting = {it: request(it, START + attribute(ACCT_SESSION_ID, b"S%d" % it), NAS_SECRET) for it in range(5)}
     came, got = [], []
@@ -342,7 +343,11 @@ def what_the_system_refuses_to_send_is_counted_apart(trial):
     hope("refused", refused, [3, 3])
     hope("what the home server got", labelled(trial, "sent_total") + labelled(trial, "probes_total") - refused[0], len(came))
     hope("what the client got", labelled(trial, "client_responses_total") - refused[1], len(got))
+    sent = labelled(trial, "client_responses_total")
     trial.ends()
+    counts = {kind: [line["count"] for line in trial.ledger_lines() if line["type"] == kind] for kind in ("unsent", "again")}
+    hope("what the ledger counts", (sum(counts["unsent"]), sum(counts["again"])), (3, sent - 5))
+    hope("what the auditor says", trial.verdict(), "whole")
     trial.text = trial.counters.read_text()
     hope("its help", [line for line in trial.text.splitlines() if "HELP rad_proxy_sent_total" in line][0].count("refused"), 1)
 

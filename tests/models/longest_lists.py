@@ -7,21 +7,22 @@ and handed out in order, and all are cut at once. Thousands of requests go throu
 here. Of a lane that is cut again and again each line is what model.py answers, and what the lane answers without the cuts.
 Then one list stays long while its front is cut off, a request at a time: that
 takes next to nothing beside the same script without the cuts, and twice the requests take twice the time. Times are those of
-the program's own processor time, and the best of several tries counts. The last line is `N passed, M failed`.
+the program's own processor time, and the best of several tries counts. Each of as many lanes
+as there may be is drained by itself. The last line is `N passed, M failed`.
 """
 import pathlib
 import resource
 import subprocess
 import sys
 
-from tests.lib import ACCT_SESSION_ID, BOB, Replay, answer, answers, attribute, best, classes, mark, request, rows, try_each
+from tests.lib import ACCT_SESSION_ID, BOB, Replay, answer, answers, attribute, best, classes, mark, request, rows, try_each, user_name
 
 QUEUE = 65_536
 KEPT, CUTS = 80_000, 6_000
 SPAN = 100_000
 CONFIGURATION = (rows.ROWS / "default-home.toml").read_text("utf-8")
 LIMITS = f"window = 254\nqueue = {QUEUE}\nbook = 100000\nspan = {SPAN}\n"
-WINDOW, TIMES, LONG_ONES = 64, 80, 8
+WINDOW, TIMES, LONG_ONES, LANES = 64, 80, 8, 64
 # Rounds of a lane that is cut: a request is over in the third round after its answer.
 ROUNDS, APART, ROUND_SPAN, NEW_ONES = 80, 400, 1000, 16
 
@@ -81,6 +82,24 @@ def fault_in(found, wanted):
         if line != right:
             return f"line {place + 1} is {line[:200]!r}, and not {right[:200]!r}"
     return None if len(found) == len(wanted) else f"{len(found)} lines, and not {len(wanted)}"
+
+
+def of_lane(lane):
+    """The tables of the home server and of the realm of a lane."""
+    home = f'[[home]]\nname = "h{lane}"\naddress = "127.0.0.1:{2000 + lane}"\nsecret = "home{lane}-secret"\n'
+    return f'{home}[[realm]]\nname = "r{lane}.example"\nhome = "h{lane}"\n'
+
+
+def each_lane_is_drained(program):
+    """Each of 64 lanes tells at the drain how many requests it took, and no two beside each other took as many."""
+    head = 'listen = "127.0.0.1:1813"\n[[client]]\naddress = "10.0.0.1"\nsecret = "nas-secret"\n'
+    counts = [lane % 5 for lane in range(LANES)]
+    asked = [(lane, count) for lane in range(LANES) for count in range(counts[lane])]
+    users = [user_name(b"bob@r%d.example" % lane).hex() for lane, _ in asked]
+    events = [f"nas 10.0.0.1 {40000 + lane} make 4 {count} {user}" for (lane, count), user in zip(asked, users)]
+    wanted = [f"nas: new {lane} {count}" for lane, count in asked] + [f"drain: {lane} {counts[lane]}" for lane in range(LANES)]
+    text = "".join([head, *map(of_lane, range(LANES)), "%%\n", *(f"{event}\n" for event in [*events, "drain"])])
+    return fault_in(replayed(program, text)[0], [*wanted, f"end: queued {sum(counts)} outstanding 0 untaken 0"])
 
 
 def asks_of(count):
@@ -225,7 +244,7 @@ def main():
     if len(sys.argv) != 2:
         sys.exit(__doc__)
     program = str(pathlib.Path(sys.argv[1]).resolve())
-    tests = [a_full_queue, thousands_are_answered, cuts_lose_nothing, cuts_cost_what_they_cut, times_are_linear]
+    tests = [a_full_queue, each_lane_is_drained, thousands_are_answered, cuts_lose_nothing, cuts_cost_what_they_cut, times_are_linear]
     try_each(tests, lambda test: fault_of(test, program))
 
 

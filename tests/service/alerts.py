@@ -149,17 +149,62 @@ def of_day():
         yield f'rad_proxy_response_seconds_bucket{{lane="0",home="h1",le="{name}"}}', sum_to(lambda minute, part=part: records(minute) * part // 100)
 
 
-def a_day_without_a_fault_fires_none():
-    """Over a day of load with bursts, and with some drops, no alert fires at any minute."""
-    want("promtool")
-    series = [{"series": name, "values": " ".join(map(str, values))} for name, values in of_day()]
-    asked = [{"eval_time": f"{minute}m", "alertname": name} for name in names(rules()) for minute in range(20, DAY_MINUTES, 5)]
+def fired_on(day, minutes):
+    """Which alerts fire over these series at any of these minutes."""
+    series = [{"series": name, "values": " ".join(map(str, values))} for name, values in day]
+    asked = [{"eval_time": f"{minute}m", "alertname": name} for name in names(rules()) for minute in minutes]
     text = {"rule_files": [RULES.name], "evaluation_interval": "1m", "tests": [{"interval": "1m", "input_series": series, "alert_rule_test": asked}]}
     with tempfile.TemporaryDirectory() as folder:
         pathlib.Path(folder, RULES.name).write_text(rules(), "utf-8")
         pathlib.Path(folder, "day.yml").write_text(json.dumps(text), "utf-8")
         ran = subprocess.run(["promtool", "test", "rules", "day.yml"], cwd=folder, capture_output=True, text=True, check=False)
-    need(ran.returncode == 0, (ran.stdout + ran.stderr)[:2000])
+    told = ran.stdout + ran.stderr
+    fired = set(re.findall(r"alertname: (\w+),", told))
+    need((ran.returncode == 0) != bool(fired), told[:2000])
+    return fired
+
+
+def a_day_without_a_fault_fires_none():
+    """Over a day of load with bursts, and with some drops, no alert fires at any minute."""
+    want("promtool")
+    hope("alerts", fired_on(of_day(), range(20, DAY_MINUTES, 5)), set())
+
+
+def since(minute, rate):
+    """What a counter has more at a minute, where it rises by so much a minute for ten minutes of the day."""
+    return rate * min(10, max(0, minute - FAULT_AT))
+
+
+def is_now(minute):
+    """Whether the fault lasts at a minute."""
+    return FAULT_AT <= minute < FAULT_AT + 10
+
+
+# When a fault begins that lasts ten minutes, of the first minutes of the day; and each alert with a series, and what that has at a minute
+# instead of what it had.
+FAULT_AT, MINUTES = 60, 80
+OF_A_DAY = {
+    "RadProxyHomeDown": ("rad_proxy_home_down_seconds_total", lambda values, minute: values[minute] + since(minute, 50)),
+    "RadProxyHomeFlaps": ("rad_proxy_downs_total", lambda values, minute: values[minute] + since(minute, 1)),
+    "RadProxyQueueWaits": ("rad_proxy_oldest_queued_age_seconds", lambda values, minute: 6 if is_now(minute) else values[minute]),
+    "RadProxyQueueFills": ("rad_proxy_queued", lambda values, minute: 3500 if is_now(minute) else values[minute]),
+    "RadProxyRecordStuck": ("rad_proxy_oldest_outstanding_age_seconds", lambda values, minute: 90 if is_now(minute) else values[minute]),
+    "RadProxyClientDropped": ("rad_proxy_client_dropped_total", lambda values, minute: values[minute] + since(minute, 3)),
+    "RadProxyStrangers": ("rad_proxy_strangers_total", lambda values, minute: values[minute] + since(minute, 3)),
+    "RadProxyClientUnanswered": ("rad_proxy_client_responses_total", lambda values, minute: values[FAULT_AT if is_now(minute) else minute]),
+    "RadProxyHomeSlow": ('rad_proxy_response_seconds_bucket.*le="(0.25|2)"', lambda values, minute: values[min(minute, FAULT_AT)]),
+    "RadProxyClockStands": ("rad_proxy_report_time_seconds", lambda values, minute: values[FAULT_AT if is_now(minute) else minute]),
+    "RadProxyLaneStands": ("rad_proxy_home_report_time_seconds", lambda values, minute: values[FAULT_AT if is_now(minute) else minute]),
+}
+
+
+def each_fault_of_a_day_fires_its_own():
+    """In the morning of this day ten minutes of a fault, which one series shows, have its alert fire, and no other one."""
+    want("promtool")
+    for alert_of_it, (series, value) in OF_A_DAY.items():
+        day = [(name, [value(values, minute) if re.match(series, name) else values[minute] for minute in range(MINUTES)])
+               for name, values in of_day()]
+        hope(alert_of_it, fired_on(day, range(FAULT_AT - 10, MINUTES, 2)), {alert_of_it})
 
 
 # What is told of the alerts of a cause. An alert is its name and its labels; a message is a receiver, and the alerts that it has.
@@ -181,8 +226,10 @@ CAUSES = {
     "a home server dies": (
         [*of_home("a", "h1", "RadProxyHomeSilent", "RadProxyHomeDown", "RadProxyHomeFlaps", "RadProxyQueueWaits", "RadProxyQueueFills"),
          alert("RadProxyClientUnanswered", "a", client="192.0.2.10"), alert("RadProxyRefuses", "a", reason="QueueFull"),
+         alert("RadProxyClientFloods", "a", client="192.0.2.10"), alert("RadProxyClientFloods", "b", client="192.0.2.10"),
          *of_home("a", "h2", "RadProxyQueueWaits"), alert("RadProxyRefuses", "b", reason="BookFull")],
-        [("call", "RadProxyHomeDown h1"), ("mail", "RadProxyQueueWaits h2"), ("mail", "RadProxyRefuses b")]),
+        [("call", "RadProxyHomeDown h1"), ("mail", "RadProxyQueueWaits h2"), ("mail", "RadProxyRefuses b"),
+         ("mail", "RadProxyClientFloods b")]),
     "a home server is slow": (
         of_home("c", "h1", "RadProxyHomeSlow", "RadProxyHomeFlaps", "RadProxyQueueWaits"), [("mail", "RadProxyHomeSlow h1")]),
     "one record is never answered": (
@@ -276,8 +323,8 @@ def alerts_of_the_rules_are_known():
 
 
 TESTS = [each_rule_fires_where_it_should, each_rule_has_both_kinds_of_series, no_rule_may_fire_always_or_never,
-         no_rule_may_fire_from_one_look, a_day_without_a_fault_fires_none, one_cause_calls_once, each_rule_of_inhibition_holds_one_back,
-         alerts_of_the_rules_are_known]
+         no_rule_may_fire_from_one_look, a_day_without_a_fault_fires_none, each_fault_of_a_day_fires_its_own, one_cause_calls_once,
+         each_rule_of_inhibition_holds_one_back, alerts_of_the_rules_are_known]
 
 
 if __name__ == "__main__":

@@ -10,8 +10,10 @@ cannot, these cases are left out. Names choose cases. What fails or is left out 
 import collections
 import contextlib
 import ctypes
+import dataclasses
 import functools
 import io
+import ipaddress
 import locale
 import os
 import pathlib
@@ -24,7 +26,8 @@ import tempfile
 import tomllib
 from multiprocessing.pool import ThreadPool
 
-from tests.lib import LeftOut, bound, environment, free_ports, hope, try_in_folders
+from tests.lib import (ACCOUNTING_REQUEST, ACCT_SESSION_ID, USER_NAME, LeftOut, bound, environment, free_ports, hope, read, reply,
+                       try_in_folders)
 from tests.lib.tools import running, table, talking, texts
 from tests.lib.tools.running import want
 from tools.converting import freeradius, patterns, radsecproxy
@@ -218,7 +221,14 @@ def addresses_are_looked_up(program, room):
 
 
 def a_delimiter_is_told(program, room):
-    """A sign other than `@`, in the file of the module that cuts a User-Name."""
+    """A sign other than `@`, and what else the module that cuts a User-Name has, in its file and in radiusd.conf."""
+    for key, told in (('delimiter = "%"', 1), ('delimiter = "@"', 0), ("format = prefix", 1), ("format = suffix", 0),
+                      ("ignore_default = yes", 1), ("ignore_null = on", 1), ("ignore_null = no", 0), ("ignore_default = No", 0)):
+        modules = f"modules {{\n realm suffix {{\n  {key}\n }}\n realm other {{\n  {key}\n }}\n}}\n"
+        path, file = written("freeradius", texts.F_ALL + modules, room)
+        status, out, lines = convert("freeradius", path)
+        hope(key, (status, short(checked(program, out, room))), (3 if told else 0, texts.WHOLE))
+        hope_told(lines, [(19, key.replace('"', "").replace(" =", ""))] * told, file)
     path, _ = written("freeradius", texts.F_ALL, room)
     file = path / "mods-enabled" / "realm"
     file.parent.mkdir()
@@ -298,6 +308,7 @@ EXTENDED, WITHOUT_CASE, WITHOUT_PLACES = 1, 2, 8
 PIECES = [b"@", b"@", b".", b"a", b"B", b"example", b"\\.", b"$", b"$", b"^", b"(", b")", b"|", b"*", b"+", b"?", b"[a-b]", b"[^@]", b"[^@]+", b".*",
           b".+", b"org", b"{2}", b"bob", b"(a|b)", b"[.@]", b"[a-c0-9-]", b"[^a-z0-9.]"]
 REALMS, NAMES = [b"example.org", b"A.example", b"b", b"aa", b"bob.b"], [b"a", b"b", b"bob", b"x.y", b"example.org", b"AB", b"bb", b"b.", b"1"]
+WITH_AN_AT = [b"a@b", b"bob@example.org", b"b@x.y", b"1@aa", b"bob@A.example"]
 # User-Names with a realm behind the last `@`, and without an `@`.
 OF_KINDS = {patterns.REALM: [b"bob@x", b"@x", b"@@x", b"a@b@x", b"a@@x", b"@b@x", b"a b@\xff", b"a@x y", b"\n@\n"], patterns.BARE: [*NAMES, b"\xff", b"\n"]}
 
@@ -322,7 +333,8 @@ def patterns_are_those_of_the_system(program, room):
         room_of_it = ctypes.create_string_buffer(256)
         if libc.regcomp(room_of_it, pattern, EXTENDED | WITHOUT_CASE | WITHOUT_PLACES):
             continue
-        found = [libc.regexec(room_of_it, name + b"@" + realm, 0, None, 0) == 0 for name in NAMES]
+        found, others = ([libc.regexec(room_of_it, name + b"@" + realm, 0, None, 0) == 0 for name in names]
+                         for names in (NAMES, WITH_AN_AT))
         takes = {kind: all(libc.regexec(room_of_it, name, 0, None, 0) == 0 for name in names) for kind, names in OF_KINDS.items()}
         libc.regfree(room_of_it)
         each = patterns.each(b"/" + pattern + b"/")
@@ -330,125 +342,211 @@ def patterns_are_those_of_the_system(program, room):
         hope(f"what {pattern!r} takes all of", [kind for kind in each if not takes[kind]], [])
         told = patterns.taken(b"/" + pattern + b"/", realm)
         said[told] += 1
+        found += [] if patterns.minds_names(b"/" + pattern + b"/", realm) else others
         if told == patterns.ALL and not all(found) or told == patterns.NONE and any(found):
             raise AssertionError(f"{pattern!r} of {realm!r}: {told}, and {found}")
     hope("patterns of each kind", all(said[kind] > 500 for kind in (patterns.ALL, patterns.NONE, patterns.SOME)) or said, True)
     hope("patterns that take each", min(said[patterns.REALM], said[patterns.BARE]) > 100 or said, True)
 
 
-# The first match.
+# Random sites, of which both proxies are asked.
 
-NAMES_ASKED, SECONDS_UNTIL_IT_COMES = 70, 0.4
-WHOLE_NAMES = ["example.org", "a.example", "b.a.example", "nordnetz.example", "biz.nordnetz.example", "x.org", "other.net"]
-PATTERNS = ["/@(.+\\.)?nordnetz\\.example$/", "/\\.example$/", "/@.*\\.org$/", "*.example", "/^[^@]+@b\\.a\\.example$/"]
+WORDS = {"radsecproxy": ["radsecproxy", "-f", "-c", "ROOM/it"], "freeradius": ["freeradius", "-f", "-l", "stdout", "-d", "ROOM"]}
+# The seeds of the sites. So many names and addresses are asked of each; and after how long without a request none comes any more.
+SEEDS, ASKED, SECONDS_UNTIL_IT_COMES = [5, 6, 7], 200, 1.0
+WHOLE_NAMES = ["example.org", "a.example", "b.a.example", "nordnetz.example", "biz.nordnetz.example", "x.org", "Y.net", "other.net"]
+PATTERNS = {
+    "radsecproxy": ["/@(.+\\.)?nordnetz\\.example$/", "/\\.example$/", "/@.*\\.org$/", "*.example", "/^[^@]+@b\\.a\\.example$/"],
+    "freeradius": ["~nordnetz", "~[.]example$", "~^.*[.]org$", "~^b[.]a", "~X"],
+}
 # Of the realms behind these nothing is known.
 BY_USER = ["/^vip/", "/guest/"]
-USERS = ["bob", "vip1", "a.guest", "x"]
+USERS = ["bob", "vip1", "a.guest", "x", "eve@a"]
 # What takes all that is left, or nearly, and realms that are listed nowhere.
 CATCH_ALLS = ["*", "/.*/", "/./", "/@/", "/@./", "/^.*@.*$/", "/^[^@]*$/", "/^[^@]+$/", "//", "/.+@.+/", "/@[^@]+$/"]
-UNLISTED = ["unknown.example2", "EXAMPLE.ORG.", "x", "a b", "\u00e9.org", "@", "example.or"]
-# So many sites, and names that are asked of each.
-RANDOM_SITES, NAMES_OF_EACH = 6, 24
+UNLISTED = ["unknown.example2", "EXAMPLE.ORG.", "x", "a b", "\u00e9.org", "@", "example.or", "nordnetz.nowhere", "EXAMPLE.ORG", "y.NET"]
+# Addresses of clients, blocks of them, and secrets, of which several clients may have one.
+NASES = [f"127.0.30.{number}" for number in range(1, 15)]
+BLOCKS = ["127.0.30.0/28", "127.0.30.0/29", "127.0.30.8/29", "127.0.30.4/30", "127.0.30.12/30"]
+SECRETS = ["first", "second", "third", "fourth"]
 
 
-def site_of_matches(chance, site):
-    """A text of radsecproxy with realms and patterns in random order, and clients behind blocks."""
-    blocks = [texts.block(f"server {home.name}", "type udp", f"host {home.address}:{home.port}", f"secret {home.secret.decode()}") for home in site.homes]
-    blocks += [texts.block("client 127.0.0.2", "type udp", "secret before"), texts.block("client 127.0.0.0/29", "type udp", "secret block"),
-               texts.block("client 127.0.0.3", "type udp", "secret behind"), texts.block("client 127.0.0.9", "type udp", "secret own")]
-    realms = WHOLE_NAMES[:-1] + PATTERNS
-    chance.shuffle(realms)
-    realms[-2:-2] = BY_USER
-    for name in realms:
-        server = [f"accountingServer {chance.choice(site.homes).name}"] if chance.random() < 0.85 else []
-        blocks.append(texts.block(f"realm {name}", *server))
-    return f"ListenUDP {table.FRONT}:{site.port}\nPidFile none\n" + "".join(blocks)
+@dataclasses.dataclass(frozen=True)
+class Asked:
+    """A request that is asked: where it comes from, its user, and the secret that signs it."""
+
+    address: str
+    user: str
+    secret: str
+
+    @property
+    def realm(self):
+        return self.user.rpartition("@")[2] if "@" in self.user else None
 
 
-def first_home(site, client, user, homes):
-    """The home server that gets the request of a user, or None."""
-    with bound(client.address) as nas:
-        nas.sendto(talking.asked(7, user.encode(), os.urandom(4).hex().encode(), client.secret), (table.FRONT, site.port))
-        for ready in select.select(list(homes), [], [], SECONDS_UNTIL_IT_COMES)[0]:
-            hope("the user", talking.answered(homes[ready], ready), user)
-            return homes[ready].name
-    return None
+def random_site(ports):
+    """A site at the first of these ports, whose home servers h0, h1 and so on have the others."""
+    port, *others = ports
+    return table.Site(port, [], [table.Home(f"h{number}", table.FRONT, it, b"home") for number, it in enumerate(others)], [])
 
 
-def the_first_match_is_that_of_radsecproxy(program, room):
-    """Random realms, patterns and blocks of clients: radsecproxy and the program over the result have the same home server and secret for a
-    name, or its realm is told."""
-    want("radsecproxy")
-    chance = random.Random(10)
-    port, *ports = free_ports(4)
-    site = table.Site(port, [], [table.Home(f"h{number}", table.FRONT, it, b"home") for number, it in enumerate(ports)], [])
-    clients = [table.Client("127.0.0.2", b"before"), table.Client("127.0.0.3", b"block"), table.Client("127.0.0.9", b"own")]
-    (room / "it").write_text(site_of_matches(chance, site))
-    asked = [(chance.choice(clients), f"{chance.choice(USERS)}@{chance.choice(WHOLE_NAMES)}") for _ in range(NAMES_ASKED)]
-    status, _, told = convert("radsecproxy", room / "it", "-o", room / "it.toml")
-    hope("status", status, 3)
-    found = []
-    for words in (["radsecproxy", "-f", "-c", str(room / "it")], [program, "run", room / "it.toml"]):
-        with contextlib.ExitStack() as stack:
-            stack.enter_context(talking.serving(words, site, room))
-            homes = {stack.enter_context(bound(home.address, home.port)): home for home in site.homes}
-            found.append([first_home(site, client, user, homes) for client, user in asked])
-    for (client, user), source, made in zip(asked, *found):
-        realm = user.partition("@")[2]
-        is_told = any(f"realm {realm}: " in line for line in told)
-        if made != source and not (made is None and (is_told or realm not in WHOLE_NAMES[:-1])):
-            raise AssertionError(f"{user} of {client.address}: {source} of radsecproxy, and {made}")
-    hope("names that reach the same", sum(made is not None for made in found[1]) > NAMES_ASKED / 4 or found, True)
+def hosts_of(chance):
+    """The clients of a site: six addresses and three blocks, in random order, each with its secret."""
+    hosts = chance.sample(NASES, 6) + chance.sample(BLOCKS, 3)
+    chance.shuffle(hosts)
+    return [(host, chance.choice(SECRETS)) for host in hosts]
 
 
-def site_with_catch_alls(chance, site):
-    """A text of radsecproxy in which one or two blocks take all that is left, somewhere among whole names, patterns and realms of nobody."""
-    blocks = [texts.block(f"server {home.name}", "type udp", f"host {home.address}:{home.port}", f"secret {home.secret.decode()}") for home in site.homes]
-    blocks += [texts.block("client 127.0.0.2", "type udp", "secret nas")]
-    realms = chance.sample(WHOLE_NAMES, 3) + chance.sample(PATTERNS + BY_USER, chance.choice([0, 0, 1])) + chance.sample(CATCH_ALLS, chance.choice([1, 1, 2]))
-    chance.shuffle(realms)
-    for name in realms:
-        blocks.append(texts.block(f"realm {name}", *([f"accountingServer {chance.choice(site.homes).name}"] if chance.random() < 0.85 else [])))
-    return f"ListenUDP {table.FRONT}:{site.port}\nPidFile none\n" + "".join(blocks)
+def realms_of(chance, kind, catch_alls):
+    """The names of the realms of a site in random order. Those of a radsecproxy without a catch-all have some of the users at the end."""
+    names = chance.sample(WHOLE_NAMES[:-1], chance.randint(4, 7)) + chance.sample(PATTERNS[kind], chance.randint(0, 4)) + catch_alls
+    chance.shuffle(names)
+    if kind == "radsecproxy":
+        names[-2:-2] = chance.sample(BY_USER, chance.choice([0, 0, 1, 2]))
+    return names
 
 
-def is_told(user, told):
-    """Whether a difference in the home server of this user is told: of the realm, of an empty one, or of what a catch-all gets too."""
-    _, sign, realm = user.rpartition("@")
-    if any(f"realm {realm}: " in line for line in told if sign):
-        return True
-    return any("not carried over too" in line or "a pattern" in line or sign and not realm and "empty realm" in line for line in told)
+def random_radsecproxy(chance, site):
+    """A text of radsecproxy with all of these."""
+    servers = [texts.block(f"server {home.name}", "type udp", f"host {home.address}:{home.port}", f"secret {home.secret.decode()}")
+               for home in site.homes]
+    clients = [texts.block(f"client {host}", "type udp", f"secret {secret}") for host, secret in hosts_of(chance)]
+    realms = [texts.block(f"realm {name}", *([f"accountingServer {chance.choice(site.homes).name}"] if chance.random() < 0.85 else []))
+              for name in realms_of(chance, "radsecproxy", chance.sample(CATCH_ALLS, chance.choice([0, 0, 1, 2])))]
+    return f"ListenUDP {table.FRONT}:{site.port}\nPidFile none\n" + "".join(servers + clients + realms)
 
 
-def catch_alls_are_those_of_radsecproxy(program, room):
-    """Random sites with what takes all that is left: radsecproxy and the program over the result have the same home server for a name, be
-    its realm listed, not listed or absent, or what differs is told."""
-    want("radsecproxy")
-    chance, same, others = random.Random(82), 0, collections.Counter()
-    for number in range(RANDOM_SITES):
-        port, *ports = free_ports(4)
-        site = table.Site(port, [], [table.Home(f"h{number}", table.FRONT, it, b"home") for number, it in enumerate(ports)], [])
-        here = room / str(number)
-        here.mkdir()
-        (here / "it").write_text(site_with_catch_alls(chance, site))
-        client = table.Client("127.0.0.2", b"nas")
-        asked = ["bob", "bob@", "eve@a@", *(f"{chance.choice(USERS)}@{realm}" for realm in chance.choices(WHOLE_NAMES + UNLISTED, k=NAMES_OF_EACH))]
-        status, _, told = convert("radsecproxy", here / "it", "-o", here / "it.toml")
-        if status == 2:
-            hope("why nothing is carried over", told[-1].startswith("rad_convert: no home server") or told, True)
-            continue
-        found = []
-        for words in (["radsecproxy", "-f", "-c", str(here / "it")], [program, "run", here / "it.toml"]):
-            with contextlib.ExitStack() as stack:
-                stack.enter_context(talking.serving(words, site, here))
-                homes = {stack.enter_context(bound(home.address, home.port)): home for home in site.homes}
-                found.append([first_home(site, client, user, homes) for user in asked])
-        for user, source, made in zip(asked, *found):
-            if made != source and not is_told(user, told):
-                raise AssertionError(f"site {number}, {user!r}: {source} of radsecproxy, and {made}: {(here / 'it').read_text()}")
-        same += sum(source == made for source, made in zip(*found))
-        others.update(key for key in ("default_home", "other_home") if f"\n{key} = " in (here / "it.toml").read_text())
-    hope("names that reach the same, and sites of each kind", same > 100 and min(others["default_home"], others["other_home"]) > 1 or (same, others), True)
+def random_freeradius(chance, site):
+    """A radiusd.conf with all of these. In every third one its server has clients, and in every third one the listener names a list:
+    it knows these alone."""
+    *pooled, alone = site.homes
+    homes = [texts.block(f"home_server {home.name}", "type = acct", f"ipaddr = {home.address}", f"port = {home.port}",
+                         f"secret = {home.secret.decode()}") for home in pooled]
+    pools = [texts.block(f"home_server_pool p{home.name}", f"home_server = {home.name}") for home in pooled]
+    clients, own = ([texts.block(f"client {host}", f"secret = {secret}") for host, secret in hosts_of(chance)] for _ in range(2))
+    realms = realms_of(chance, "freeradius", [name for name in ("DEFAULT", "NULL") if chance.random() < 0.5])
+    led = [texts.block(f'realm "{name}"', *led_by_freeradius(chance, chance.choice(pooled), alone), "nostrip") for name in realms]
+    main = table.freeradius(site)["radiusd.conf"].decode()
+    main = re.sub(r"(?m)^\$INCLUDE .*\n", "", main)
+    front, listener, way = "server accounting {\n", "\tlisten {\n", chance.choice(["all", "own", "named"])
+    if way == "named":
+        main = main.replace(listener, f"{listener}\t\tclients = some\n") + "".join(["clients some {\n", *own, "}\n"])
+    return main.replace(front, "".join(homes + pools + clients + led) + front + "".join(own if way == "own" else []))
+
+
+def led_by_freeradius(chance, home, alone):
+    """How a realm has its home server: by a pool, as in FreeRADIUS 1, or not at all."""
+    old = [f"accthost = {alone.address}:{alone.port}", f"secret = {alone.secret.decode()}"]
+    return chance.choice([[f"acct_pool = p{home.name}"]] * 4 + [old, []])
+
+
+def asked_of(chance):
+    """Names and addresses by chance, each with each secret: those of listed realms, of others, of none, and of an empty one."""
+    realms = WHOLE_NAMES * 3 + UNLISTED + ["", None, None]
+    for _ in range(ASKED):
+        address, user, realm = chance.choice(NASES), chance.choice(USERS), chance.choice(realms)
+        user = user.partition("@")[0] if realm is None else f"{user}@{realm}"
+        yield from (Asked(address, user, secret) for secret in SECRETS)
+
+
+def reached(words, site, room, asked):
+    """Of each request that is asked of a proxy the home server that gets it, or None."""
+    found = [None] * len(asked)
+    with contextlib.ExitStack() as stack:
+        stack.enter_context(talking.serving(words, site, room))
+        homes = {stack.enter_context(bound(home.address, home.port)): home for home in site.homes}
+        nases = {}
+        for number, one in enumerate(asked):
+            key = one.address, number // 256
+            nases[key] = nases.get(key) or stack.enter_context(bound(one.address))
+            nases[key].sendto(talking.asked(number % 256, one.user.encode(), b"%d" % number, one.secret.encode()), (table.FRONT, site.port))
+            hear(homes, asked, found, 0.001)
+        while hear(homes, asked, found, SECONDS_UNTIL_IT_COMES):
+            pass
+    return found
+
+
+def hear(homes, asked, found, seconds):
+    """Answers what has come at the home servers, and gives whether something came."""
+    ready = select.select(list(homes), [], [], seconds)[0]
+    for one in ready:
+        octets, sender = one.recvfrom(4096)
+        packet = read(octets)
+        if packet.code == ACCOUNTING_REQUEST:
+            hope("signed under the home server's secret", talking.is_request(packet, homes[one].secret), True)
+            number = int(talking.value(packet, ACCT_SESSION_ID))
+            hope("the user", talking.value(packet, USER_NAME).decode(), asked[number].user)
+            found[number] = homes[one].name
+            one.sendto(reply(packet, homes[one].secret), sender)
+    return bool(ready)
+
+
+# What of a difference is told.
+
+def has(network, address):
+    """Whether a block of addresses has this one; a client without a block is one of one address."""
+    try:
+        return ipaddress.IPv4Address(address) in ipaddress.IPv4Network(network)
+    except ValueError:
+        return False
+
+
+def takes_some(name, user):
+    """Whether a pattern, as it is told, takes a User-Name of radsecproxy, or the realm of one of FreeRADIUS."""
+    if name.startswith("~"):
+        return re.search(name[1:], user.rpartition("@")[2], re.I) is not None
+    return re.search({"*.example": "\\.example$"}.get(name, name[1:-1]), user, re.I) is not None
+
+
+def is_told(one, made, told):
+    """Whether a difference of a request is told. Of a client and a realm that the result has, none may be."""
+    of_clients, of_realms = ([found for line in told if (found := re.search(f": {kind} (.*?): (.*)", line))]
+                             for kind in ("client", "realm"))
+    secrets = {it["address"]: it["secret"] for it in made["client"]}
+    if one.address not in secrets:
+        return any(has(found[1], one.address) for found in of_clients)
+    if secrets[one.address] != one.secret:
+        return False
+    realm = one.realm
+    if realm is not None and realm.lower() in [it["name"].lower() for it in made.get("realm", [])]:
+        said = [found[2] for found in of_realms if found[1].lower() == realm.lower()]
+        return one.user.count("@") > 1 and any("of a name with an `@`" in it for it in said)
+    return any(realm is not None and found[1].lower() == realm.lower() or "a pattern" in found[2] and takes_some(found[1], one.user)
+               or realm == "" and "empty realm" in found[2] or "not carried over too" in found[2] for found in of_realms)
+
+
+def differences(kind, chance, program, room):
+    """A random site, of which the proxy and the program over what was converted are asked the same. The result is how often both led to the
+    same home server, and what the result has for all that is not listed."""
+    site, asked = random_site(free_ports(5)), list(asked_of(chance))
+    file = room / ("it" if kind == "radsecproxy" else MAIN[kind])
+    file.write_text({"radsecproxy": random_radsecproxy, "freeradius": random_freeradius}[kind](chance, site))
+    status, _, told = convert(kind, file, "-o", room / "it.toml")
+    hope("status", (status, told) if status == 2 else status, 3)
+    made = tomllib.loads((room / "it.toml").read_text())
+    source = reached([word.replace("ROOM", str(room)) for word in WORDS[kind]], site, room, asked)
+    found = reached([program, "run", room / "it.toml"], site, room, asked)
+    wrong = [(one, *both) for one, *both in zip(asked, source, found) if both[0] != both[1] and not is_told(one, made, told)]
+    if wrong:
+        raise AssertionError(f"{wrong[0]}, and {len(wrong) - 1} others: {file.read_text()}")
+    same = sum(one is not None and one == other for one, other in zip(source, found))
+    return same, [key for key in ("default_home", "other_home") if key in made]
+
+
+def sites_by_chance(kind, seeds):
+    """A case of random sites: the proxy and the program over the result have the same home server and secret for each name and address, or
+    what differs is told."""
+    def case(program, room):
+        want(*WORDS[kind][:1])
+        same, others = [], collections.Counter()
+        for seed in seeds:
+            (room / str(seed)).mkdir()
+            count, keys = differences(kind, random.Random(seed), program, room / str(seed))
+            same.append(count)
+            others.update(keys)
+        is_much = min(same) > 10 and sum(same) > 30 * len(same) and len(others) == 2
+        hope("requests that reach the same, and sites of each kind", is_much or (same, others), True)
+    return case
 
 
 # What the packages ship.
@@ -645,8 +743,8 @@ def cases():
     yield from limits()
     yield "patterns are those of the system", patterns_are_those_of_the_system
     yield from sites()
-    yield "the first match is that of radsecproxy", the_first_match_is_that_of_radsecproxy
-    yield "catch-alls are those of radsecproxy", catch_alls_are_those_of_radsecproxy
+    for kind in WORDS:
+        yield f"random sites of {kind}", sites_by_chance(kind, SEEDS)
     yield from packages()
     yield from damages()
 

@@ -30,8 +30,8 @@ import time
 from collections import Counter, defaultdict
 from dataclasses import dataclass
 
-from tests.lib import (ACCT_SESSION_ID, ACCT_STATUS_TYPE, PROXY_STATE, TOP, Lane, Run, attribute, audit_model, environment, free_ports,
-                       hope, is_asked, mark, need, packets, request, started, text, try_in_folders, until, user_name)
+from tests.lib import (ACCT_SESSION_ID, ACCT_STATUS_TYPE, PROXY_STATE, TOP, Lane, LeftOut, Run, attribute, audit_model, environment,
+                       free_ports, hope, is_asked, mark, need, packets, request, started, text, try_in_folders, until, user_name)
 from tests.lib.ledgers import chained, sum_of
 from tests.lib.tools import running
 from tests.lib.tools.running import TOOLS, want
@@ -852,6 +852,22 @@ def what_is_handed_out_is_its_owners_alone(program, folder):
     hope("one that is there", [it.stat().st_mode & 0o777 for it in (there, *there.iterdir())], [0o755, 0o600])
 
 
+def what_is_handed_out_goes_to_a_file_system_of_its_own(program, folder):
+    """A folder may be one where another file system is mounted. A file there that has the name of one is left alone."""
+    stage, (ledger, _) = Stage(program, folder), two_runs(folder)
+    mounted = pathlib.Path("/dev/shm")
+    if not os.access(mounted, os.W_OK) or mounted.stat().st_dev == mounted.parent.stat().st_dev:
+        raise LeftOut("it wants /dev/shm")
+    made, before = mounted / ledger.path.name, set(mounted.iterdir())
+    try:
+        for status in (0, 4):
+            ran = running.run("rad_ledger", "hand-out", "--home", "billing", str(mounted), str(ledger.path))
+            hope("status", (ran.returncode, made.is_file(), ran.stderr.count(b"exists")), (status, True, int(status > 0)))
+            hope("what else is there", {it.name for it in set(mounted.iterdir()) - before}, {made.name})
+    finally:
+        made.unlink(missing_ok=True)
+
+
 # An environment in which Python takes names and texts for ASCII.
 OF_ASCII = {"LC_ALL": "C", "PYTHONUTF8": "0", "PYTHONCOERCECLOCALE": "0"}
 
@@ -1030,7 +1046,8 @@ def write_long(path, octets):
 TESTS = [records_are_found, paragraphs_have_all, many_records_are_all_told, each_form_is_read, the_verdict_is_the_auditors,
          sums_are_right, tables_are_right, no_text_of_a_table_is_a_formula, volumes_of_64_bits_are_kept, an_import_is_whole_or_nothing, errors_are_one_line,
          details_are_compared, a_comparison_takes_bounded_memory, freeradius_writes_details, cut_anywhere_it_is_right_or_refused, spoiled_anywhere_it_ends_in_words,
-         what_was_left_is_told, one_home_servers_records_are_handed_out, what_is_handed_out_is_its_owners_alone, nothing_turns_a_terminal,
+         what_was_left_is_told, one_home_servers_records_are_handed_out, what_is_handed_out_is_its_owners_alone,
+         what_is_handed_out_goes_to_a_file_system_of_its_own, nothing_turns_a_terminal,
          outputs_may_be_closed, times_that_do_not_exist_are_told, it_can_be_stopped, names_are_printed, progress_is_shown_at_a_terminal]
 LONG = [a_gigabyte_takes_bounded_time_and_memory]
 

@@ -22,6 +22,15 @@ ADDRESS = (b"ipaddr", b"ipv4addr", b"ipv6addr")
 WAITS = (b"response_window", b"response_timeouts", b"max_outstanding", b"zombie_period", b"status_check", b"ping_check",
          b"ping_interval", b"check_interval", b"check_timeout", b"status_check_timeout", b"num_answers_to_alive", b"revive_interval")
 
+# What the module that cuts a User-Name may have, and what is told of another value.
+NO = (b"no", b"false", b"0", b"off")
+SUFFIX = {
+    b"delimiter": ((b"@",), "rad_proxy has `@`"),
+    b"format": ((b"suffix",), "rad_proxy has the realm at the end"),
+    b"ignore_default": (NO, "rad_proxy has other_home for all that is not listed"),
+    b"ignore_null": (NO, "rad_proxy has default_home for what has no realm"),
+}
+
 # What these sections may run without a change of what becomes of a request.
 PLAIN = {b"suffix", b"acct_unique", b"preprocess", b"ok", b"noop"}
 SECTIONS = {
@@ -41,15 +50,18 @@ class Converter:
         self.homes = {}
         self.realm_homes = {}
         self.servers = [root, *root.sections(b"server")]
+        self.listeners = [(server, part) for server in self.servers for part in server.sections(b"listen") if self._takes_records(part)]
 
     def convert(self):
         """Carries everything over, and tells what was not."""
         self._tell_proxy()
         self._listen()
-        for server in self.servers:
-            self._clients(server)
+        known = self._lists()
+        for server in known + [one for one in self.servers if one not in known]:
+            self._clients(server, server in known)
         for part in self.root.sections(b"clients"):
-            self.site.tell(part.place, f"{site.named('clients', part.name)}: rad_proxy has one list of clients")
+            if part not in known:
+                self.site.tell(part.place, f"{site.named('clients', part.name)}: rad_proxy has one list of clients")
         self._realms()
         for server in self.servers:
             self._policies(server)
@@ -57,7 +69,7 @@ class Converter:
 
     def _tell_proxy(self):
         for server in self.root.sections(b"proxy"):
-            for name, said in ((b"default_fallback", "rad_proxy has no second home server"),
+            for name, said in ((b"default_fallback", site.SECOND),
                                (b"dynamic", "rad_proxy reads its home servers at start alone")):
                 pair = server.pair(name)
                 if pair and (pair.value or b"yes").lower() in (b"yes", b"true", b"1", b"on"):
@@ -75,19 +87,19 @@ class Converter:
     # Where requests are received.
 
     def _listen(self):
+        for part in (part for server in self.servers for part in server.sections(b"listen") if self._value(part, b"type") == b"detail"):
+            self.site.tell(part.place, "listen: type detail: rad_proxy reads no files of records")
         found = []
-        for part in (part for server in self.servers for part in server.sections(b"listen")):
-            if self._value(part, b"type") == b"detail":
-                self.site.tell(part.place, "listen: type detail: rad_proxy reads no files of records")
-            elif self._value(part, b"type") in RECEIVING:
-                target = self._listened(part)
-                found += [(target, part.place)] if target else []
+        for listener in self.listeners:
+            target = self._listened(listener[1])
+            found += [(target, listener[1].place, listener)] if target else []
         if not found:
             self.site.listens("0.0.0.0", ACCOUNTING, ["the port of accounting, since no listen section for it is carried over"])
             return
-        target, kept = min(found, key=lambda one: one[0][1] != ACCOUNTING)
+        target, kept, front = min(found, key=lambda one: one[0][1] != ACCOUNTING)
+        self.listeners = [front, *self.listeners]
         self.site.listens(*target, [f"listen, {kept}"])
-        for _, place in found:
+        for _, place, _ in found:
             if place != kept:
                 self.site.tell(place, f"listen: rad_proxy receives at one address and port, which is that of {kept}")
 
@@ -106,15 +118,18 @@ class Converter:
         except (addresses.Uncarried, site.Unfit) as why:
             self.site.tell((pair or part).place, f"listen: {why}")
             return None
-        for name, said in ((b"interface", "rad_proxy listens at an address"), (b"clients", "rad_proxy has one list of clients")):
-            found = part.pair(name)
-            if found:
-                self.site.tell(found.place, f"listen: {shown(name)}: {said}")
+        found = part.pair(b"interface")
+        if found:
+            self.site.tell(found.place, "listen: interface: rad_proxy listens at an address")
         return address, port
 
     def _receives(self, server):
         """Whether a server listens for accounting."""
-        return any(self._value(one, b"type") in RECEIVING for one in server.sections(b"listen"))
+        return any(map(self._takes_records, server.sections(b"listen")))
+
+    def _takes_records(self, part):
+        """Whether a listen section is for accounting."""
+        return self._value(part, b"type") in RECEIVING
 
     # Values of sections.
 
@@ -148,7 +163,17 @@ class Converter:
 
     # Clients.
 
-    def _clients(self, server):
+    def _lists(self):
+        """The sections whose clients a listener for accounting knows, that of the one that is carried over first. It knows those of the
+        list that it names, or else those of its server alone, where that has some."""
+        found = []
+        for server, listener in self.listeners or [(self.root, self.root)]:
+            named = self.root.section(b"clients", self._value(listener, b"clients")) if listener.pair(b"clients") else None
+            part = named or (server if server.section(b"client") else self.root)
+            found += [part] if part not in found else []
+        return found
+
+    def _clients(self, server, is_known):
         for client in server.sections(b"client"):
             what = site.named("client", client.name)
             try:
@@ -157,8 +182,9 @@ class Converter:
             except (addresses.Uncarried, site.Unfit) as why:
                 self.site.tell((client.pair(*ADDRESS) or client).place, f"{what}: {why}")
                 continue
-            if server is not self.root and not self._receives(server):
-                self.site.tell(client.place, f"{what}: its server receives no accounting")
+            if not is_known:
+                said = "each listener has clients of its own" if server is self.root else "no listener for accounting has its list"
+                self.site.tell(client.place, f"{what}: {said}")
                 continue
             self._lost(client, what, {
                 b"virtual_server": "rad_proxy has no virtual servers",
@@ -238,11 +264,11 @@ class Converter:
 
     def _made_pool(self, pool):
         what = site.named("home_server_pool", pool.name)
-        self._lost(pool, what, {b"fallback": "rad_proxy has no second home server", b"virtual_server": "rad_proxy has no virtual servers"})
+        self._lost(pool, what, {b"fallback": site.SECOND, b"virtual_server": "rad_proxy has no virtual servers"})
         kept = None
         for pair in pool.pairs(b"home_server"):
             if kept:
-                self.site.tell(pair.place, f"{what}: rad_proxy has one home server for a realm ({shown(pair.value or b'')} is another one)")
+                self.site.tell(pair.place, f"{what}: {site.SECOND} ({shown(pair.value or b'')} is another one)")
                 continue
             kept = self._home(pair.value or b"")
             if kept is None:
@@ -378,16 +404,18 @@ def _paths(path):
     return found
 
 
-def _tell_delimiter(library, path, made):
-    """Tells of a sign other than `@` at which FreeRADIUS cuts a User-Name, in the file of its module."""
-    if not os.path.isfile(path):
-        return
-    reader = sections.Reader(library)
-    reader.read(path)
-    for part in reader.root.sections(b"realm"):
-        pair = part.pair(b"delimiter")
-        if part.name == b"suffix" and pair and pair.value != b"@":
-            made.tell(pair.place, f"{site.named('realm', part.name)}: delimiter {shown(pair.value or b'')}: rad_proxy has `@`")
+def _tell_suffix(library, root, path, made):
+    """Tells of what the module that cuts a User-Name does otherwise, in radiusd.conf or in the file of its module."""
+    parts = [part for modules in root.sections(b"modules") for part in modules.sections(b"realm")]
+    if os.path.isfile(path):
+        reader = sections.Reader(library)
+        reader.read(path)
+        parts += reader.root.sections(b"realm")
+    for part in (part for part in parts if part.name == b"suffix"):
+        for name, (values, said) in SUFFIX.items():
+            pair = part.pair(name)
+            if pair and (pair.value or b"").lower() not in values:
+                made.tell(pair.place, f"{site.named('realm', part.name)}: {shown(name)} {shown(pair.value or b'')}: {said}")
 
 
 def convert(library, path, made):
@@ -398,5 +426,5 @@ def convert(library, path, made):
     for more in paths[1:]:
         reader.read_into(more, reader.root)
     Converter(reader.root, made).convert()
-    _tell_delimiter(library, os.path.join(os.path.dirname(paths[0]), b"mods-enabled", b"realm"), made)
+    _tell_suffix(library, reader.root, os.path.join(os.path.dirname(paths[0]), b"mods-enabled", b"realm"), made)
     return f"From FreeRADIUS's {shown(path)}, by rad_convert."

@@ -2,7 +2,7 @@
 
 A pattern is an extended regular expression of POSIX that radsecproxy looks for in the whole User-Name, without regard to case. Python's
 `re` finds the same where a pattern has only the signs of TOKEN, no two bounds in a row and no bound at a beginning. A User-Name is taken
-to have one `@` and something before it.
+to have one `@` and something before it; `minds_names` says where another `@` makes a difference.
 """
 import re
 
@@ -39,6 +39,15 @@ def taken(name, realm):
     except re.error:
         return SOME
     return ALL if ALL in found else NONE if found == {NONE} else SOME
+
+
+def minds_names(name, realm):
+    """Whether a pattern, which takes all or none of a realm, may do otherwise where what is before the realm has an `@`."""
+    parts = alternatives(tokens_of(pattern_of(name)) or [])
+    if taken(name, realm) == ALL:
+        return any(one[:1] == [b"^"] and one[1:2] and one[1].startswith(b"[^") and b"@" in one[1] for one in parts)
+    ended = [one[:-1] for one in parts if one[-1:] == [b"$"] and fits(last_octets(one[:-1]), b"@" + realm)]
+    return any(sum(map(crosses, one)) > 1 for one in ended) or any(any(map(crosses, one)) for one in parts if one[-1:] != [b"$"])
 
 
 def each(name):
@@ -85,8 +94,12 @@ def _taken(tokens, tail):
         return SOME
     if text.search(tail):
         return ALL
-    crosses = any(token in (b".", b"@", b"\\@") or token.startswith(b"[") and (b"@" in token) != token.startswith(b"[^") for token in tokens)
-    return NONE if tokens[-1:] == [b"$"] and b"$" not in tokens[:-1] and not crosses else SOME
+    return NONE if tokens[-1:] == [b"$"] and b"$" not in tokens[:-1] and not any(map(crosses, tokens)) else SOME
+
+
+def crosses(token):
+    """Whether a token takes an `@`."""
+    return token in (b".", b"@", b"\\@") or token.startswith(b"[") and (b"@" in token) != token.startswith(b"[^")
 
 
 def last_octets(tokens):

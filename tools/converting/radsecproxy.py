@@ -391,6 +391,9 @@ class Converter:
             self._tells_of_response(block, what)
             return False
         home = self._home_of_block(first or block, what)
+        minding = next((one for one in self.patterns if patterns.minds_names(one.name, name)), None)
+        if minding and home and name.lower() not in self.site.places["realm"]:
+            self.site.tell(block.place, f"{what}: of a name with an `@` radsecproxy may choose otherwise, by realm {shown(minding.name)} of {minding.place}")
         said = [f"at the home server of {site.named('realm', first.name)}, {first.place}, which radsecproxy finds first"] if first else []
         return bool(home) and self.site.add_realm(block.place, what, name, home, said)
 
@@ -398,7 +401,7 @@ class Converter:
         """The home server of a block for accounting, or None. Of several, the first one is carried over."""
         servers = block.all(b"accountingserver")
         for option in servers[1:]:
-            self.site.tell(option.place, f"{what}: rad_proxy has one home server for a realm ({shown(option.value)} is another one)")
+            self.site.tell(option.place, f"{what}: {site.SECOND} ({shown(option.value)} is another one)")
         if not servers:
             self._tells_of_response(block, what)
         return self._home_of(servers[0], what) if servers else None

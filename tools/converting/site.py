@@ -20,6 +20,10 @@ NUMBERS = ["window = 254        # outstanding at once, the most of one port: 63 
            "book = 200000       # room for these, and for 4000 a second within a span; a full one takes 140 MB"]
 
 
+# What is told of a second home server.
+SECOND = "rad_proxy has one home server for a realm, and examples/failover sends a dead one's records to another"
+
+
 class Unfit(Exception):
     """A value that rad_proxy cannot have, with the reason."""
 

@@ -1,9 +1,12 @@
 """Hands out the records of one home server. In the place of each other line of a run is one with its lane, its kind and its sum, so that the
 sums can be judged; of the lines that begin a file or end the run the other lanes are left out, unless the giver wants their names and
 counts told."""
+import errno
 import hashlib
 import json
 import os
+import shutil
+import tempfile
 
 from trial.faults import Fault, shown_path, told_by
 
@@ -72,16 +75,33 @@ class Handed:
         return b'{"type":"hidden","sum":"%s"}' % hashlib.sha256(line + b"\n").hexdigest().encode() if self.has_others else None
 
 
-def make_folder(path):
-    """Makes a folder, if there is none, which only its owner may enter."""
-    os.makedirs(os.path.dirname(os.path.abspath(path)), exist_ok=True)
-    try:
-        os.mkdir(path)
-    except FileExistsError:
-        if not os.path.isdir(path):
-            raise
+# The beginning of the name of the folder in which files are made: in the one in which they come to be, or beside it, if it is not there.
+NEW = ".new-"
+
+
+def place_of(error, folder):
+    """The file that a fault is of, as whoever gave the folder knows it."""
+    name = error.filename2 or error.filename or folder
+    return folder if os.path.basename(os.fsdecode(name)).startswith(NEW) else name
+
+
+def put(made, folder):
+    """Has a folder take its place, or its files theirs in the one that is there, none over another one; else none of them does."""
+    if not os.path.lexists(folder):
+        os.rename(made, folder)
         return
-    os.chmod(path, 0o700)
+    placed, names = [], os.listdir(made)
+    for name in names:
+        if os.path.lexists(os.path.join(folder, name)):
+            raise FileExistsError(errno.EEXIST, os.strerror(errno.EEXIST), os.path.join(folder, name))
+    try:
+        for name in names:
+            os.rename(os.path.join(made, name), os.path.join(folder, name))
+            placed.append(name)
+    except OSError:
+        for name in placed:
+            os.unlink(os.path.join(folder, name))
+        raise
 
 
 def make_file(path):
@@ -94,16 +114,23 @@ def make_file(path):
 def hand_out(home, has_others, folder, paths):
     """Writes the files into a folder, none over another one, and gives the line that tells of them, and which files were not read."""
     sources, handed = Sources(paths), Handed(home, has_others)
+    above, made = folder if os.path.isdir(folder) else os.path.dirname(os.path.abspath(folder)), None
     try:
-        make_folder(folder)
+        os.makedirs(above, exist_ok=True)
+        made = tempfile.mkdtemp(prefix=NEW, dir=above)
+        os.chmod(made, 0o700)
         for source in sources:
-            with make_file(os.path.join(folder, source.name)) as file:
+            with make_file(os.path.join(made, source.name)) as file:
                 for line in lines_in(source.octets(lambda _: None)):
                     octets = handed.of(line)
                     if octets is not None:
                         file.write(octets + b"\n")
+        put(made, folder)
     except OSError as error:
-        raise Fault(f"{shown_path(error.filename or folder)}: {told_by(error)}") from None
+        raise Fault(f"{shown_path(place_of(error, folder))}: {told_by(error)}") from None
+    finally:
+        if made:
+            shutil.rmtree(made, ignore_errors=True)
     records, others = handed.records, handed.others
     yield f"{records} record{'s' * (records != 1)}, {others} line{'s' * (others != 1)} left out"
     yield NotRead(sources.unread)

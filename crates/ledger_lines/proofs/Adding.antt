@@ -7,9 +7,9 @@ use Rattle.json.specs.Json.{string}
 use Rattle.json.specs.Token.{key}
 use Rattle.json.specs.Tree.{json_tokens}
 use Rattle.json.specs.Written.{Written}
-use Rattle.json_objects.specs.Adding.{AddsSlots}
+use Rattle.json_objects.specs.Adding.{AddsSlots, Opens}
 use Rattle.json_objects.specs.Written.{number_value}
-use Rattle.ledger_lines.specs.Written.{octets_value, words_slots}
+use Rattle.ledger_lines.specs.Written.{first_slots, octets_value, words_slots}
 
 -- the same number, the same octets
 pub number_is : {a b : Written} {name : List ℕ} (m n : ℕ) → m ≡ n → AddsSlots a b ((name, Some (number_value m)) ∷ []) → AddsSlots a b ((name, Some (number_value n)) ∷ [])
@@ -26,6 +26,9 @@ string_is {a} {b} {name} xs ys e p = subst (λ (zs : List ℕ). AddsSlots a b ((
 
 pub number_if_is : {a b : Written} {name : List ℕ} (m n : Option ℕ) → m ≡ n → AddsSlots a b ((name, option_map number_value m) ∷ []) → AddsSlots a b ((name, option_map number_value n) ∷ [])
 number_if_is {a} {b} {name} m n e p = subst (λ (k : Option ℕ). AddsSlots a b ((name, option_map number_value k) ∷ [])) e p
+
+pub first_is : {a b : Written} {time : List ℕ} (run : ℕ) (xs ys : List ℕ) → xs ≡ ys → Opens a b (first_slots xs run time) → Opens a b (first_slots ys run time)
+first_is {a} {b} {time} run xs ys e p = subst (λ (zs : List ℕ). Opens a b (first_slots zs run time)) e p
 
 -- octets that may be there
 pub words_text : {E : Type 0} (r : Result (Unit {0}) E) (a b : Written) (name other octets text : List ℕ) → text ≡ octets → IsUtf8 octets → OnOk r (AddsSlots a b ((name, Some (string text)) ∷ [])) → OnOk r (AddsSlots a b (words_slots name other (Some octets)))

@@ -6,13 +6,15 @@ use Rattle.json.specs.Json.{Json, string}
 use Rattle.ledger_rules.specs.declared.entry.Entry.{Entry}
 use Rattle.ledger_rules.specs.declared.left.Left.{Left}
 use Rattle.ledger_rules.specs.declared.line_request.LineRequest.{LineRequest}
+use Rattle.ledger_rules.specs.declared.record_count.RecordCount.{RecordCount}
 use Rattle.ledger_lines.specs.declared.begin.Begin.{Begin}
 use Rattle.ledger_lines.specs.declared.end.End.{End}
 use Rattle.ledger_lines.specs.declared.begin.FileBefore.{FileBefore}
 use Rattle.ledger_lines.specs.declared.end.LaneCount.{LaneCount}
 use Rattle.ledger_lines.specs.declared.lane_start.LaneStart.{LaneStart}
+use Rattle.ledger_lines.specs.declared.record_count.CountKind.{CountKind}
 use Rattle.json_objects.specs.Written.{number_value, object_of}
-use Rattle.ledger_lines.specs.Written.{begin_slots, begin_value, count_slots, count_value, digits_if_any, end_slots, end_value, entry_slots, entry_value, file_slots, file_value, lane_slots, left_slots, left_value, octets_value, packet_slots, request_slots, start_slots, start_value, state_slots, sum_slot, text_if_any, words_slots}
+use Rattle.ledger_lines.specs.Written.{begin_slots, begin_value, count_slots, count_value, digits_if_any, end_slots, end_value, entry_slots, entry_value, file_slots, file_value, lane_slots, left_slots, left_value, octets_value, packet_slots, record_count_slots, record_count_value, request_slots, start_slots, start_value, state_slots, sum_slot, text_if_any, words_slots}
 use Rattle.json_objects.proofs.Fine.{AreFine, IsFine, MayBeFine, deeper, fine_array, fine_both, fine_object}
 
 any_number : (most : ℕ) (its : Option ℕ) → MayBeFine most (option_map number_value its)
@@ -143,3 +145,14 @@ pub fine_left_summed : (left : Left) (sum : List ℕ) → IsFine 128 (object_of 
 fine_left_summed left sum =
     deeper 1 128 (object_of (left_slots left ++ sum_slot sum ∷ [])) (omega arith)
     (fine_object 0 (left_slots left ++ sum_slot sum ∷ []) refl (fine_both 0 (left_slots left) (sum_slot sum ∷ []) (left_fine left) (sum_fine 0 sum)))
+
+count_fine : (kind : CountKind) (its : RecordCount) → AreFine 0 (record_count_slots kind its)
+count_fine kind its = (plain, (plain, (plain, (plain, (plain, (plain, (plain, tt)))))))
+
+pub fine_record_count : (kind : CountKind) (its : RecordCount) → IsFine 128 (record_count_value kind its)
+fine_record_count kind its = deeper 1 128 (record_count_value kind its) (omega arith) (fine_object 0 (record_count_slots kind its) refl (count_fine kind its))
+
+pub fine_record_count_summed : (kind : CountKind) (its : RecordCount) (sum : List ℕ) → IsFine 128 (object_of (record_count_slots kind its ++ sum_slot sum ∷ []))
+fine_record_count_summed kind its sum =
+    deeper 1 128 (object_of (record_count_slots kind its ++ sum_slot sum ∷ [])) (omega arith)
+    (fine_object 0 (record_count_slots kind its ++ sum_slot sum ∷ []) refl (fine_both 0 (record_count_slots kind its) (sum_slot sum ∷ []) (count_fine kind its) (sum_fine 0 sum)))

@@ -22,6 +22,7 @@ use Rattle.json_objects.proofs.Numbers.{AreNumbered, MayBeNumbered, numbered_bot
 use Rattle.ledger_rules.specs.declared.entry.Entry.{Entry}
 use Rattle.ledger_rules.specs.declared.left.Left.{Left}
 use Rattle.ledger_rules.specs.declared.line_request.LineRequest.{LineRequest}
+use Rattle.ledger_rules.specs.declared.record_count.RecordCount.{RecordCount}
 use Rattle.ledger_lines.specs.declared.begin.Begin.{Begin}
 use Rattle.ledger_lines.specs.declared.begin.FileBefore.{FileBefore}
 use Rattle.ledger_lines.specs.declared.end.End.{End}
@@ -29,10 +30,12 @@ use Rattle.ledger_lines.specs.declared.end.LaneCount.{LaneCount}
 use Rattle.ledger_lines.specs.declared.lane_start.LaneStart.{LaneStart}
 use Rattle.ledger_lines.specs.declared.reading.Line.{Line}
 use Rattle.ledger_lines.specs.declared.reading.Line.TheVariants.{Begin as begins, Entry as enters, Left as leaves, End as ends}
+use Rattle.ledger_lines.specs.declared.record_count.CountKind.{CountKind}
+use Rattle.ledger_lines.specs.declared.record_count.CountKind.TheVariants.{Again, Unsent}
 use Rattle.ledger_lines.specs.Lines.{IsLine, IsLineOf}
-use Rattle.ledger_lines.specs.Written.{IsBelowIfAny, IsReadableBegin, IsReadableCount, IsReadableEnd, IsReadableEntry, IsReadableFileIfAny, IsReadableLeft, IsReadableRequest, IsReadableStart, IsSum, IsSummedAs, begin_slots, begin_value, count_slots, count_value, digits_if_any, end_slots, end_value, entry_slots, entry_value, file_slots, file_value, lane_slots, left_slots, left_value, octets_value, packet_slots, request_slots, start_slots, start_value, state_slots, sum_slot, sum_text, text_if_any, words_slots}
-use Rattle.ledger_lines.proofs.Fine.{fine_begin_summed, fine_end_summed, fine_entry_summed, fine_left_summed}
-use Rattle.ledger_lines.proofs.Told.{array_there, begin_read, end_read, entry_read, left_read, summed}
+use Rattle.ledger_lines.specs.Written.{IsBelowIfAny, IsReadableBegin, IsReadableCount, IsReadableEnd, IsReadableEntry, IsReadableFileIfAny, IsReadableLeft, IsReadableRecordCount, IsReadableRequest, IsReadableStart, IsSum, IsSummedAs, begin_slots, begin_value, count_slots, count_value, counted_as, digits_if_any, end_slots, end_value, entry_slots, entry_value, file_slots, file_value, kind_name, lane_slots, left_slots, left_value, octets_value, packet_slots, record_count_slots, record_count_value, request_slots, start_slots, start_value, state_slots, sum_slot, sum_text, text_if_any, words_slots}
+use Rattle.ledger_lines.proofs.Fine.{fine_begin_summed, fine_end_summed, fine_entry_summed, fine_left_summed, fine_record_count_summed}
+use Rattle.ledger_lines.proofs.Told.{array_there, begin_read, end_read, entry_read, left_read, record_count_read, summed}
 use Rattle.ledger_lines.proofs.Members.{found, get_found}
 
 -- ---- digits need no escape
@@ -204,6 +207,9 @@ left_numbered left h =
     let behind = numbered_both (request_slots left.about) (state_slots left) (request_numbered left.about h.about) states in
     numbered_both (lane_slots (codes "left") left.about) (request_slots left.about ++ state_slots left) (lane_numbered (codes "left") left.about h.about) behind
 
+count_line_numbered : (kind : CountKind) (its : RecordCount) → IsReadableRecordCount its → AreNumbered (record_count_slots kind its)
+count_line_numbered kind its h = (tt, (tt, (tt, (tt, (number_is its.lane (omega (arith, h.lane)), (number_is its.number h.record_is, (number_is its.count h.count, tt)))))))
+
 -- ---- each kind of line
 
 -- all slots but the first
@@ -223,3 +229,7 @@ module _ (before all sum : List ℕ) where
 
   pub end_line : (end : End) (h : HasFrontBehind before all (end_value end)) → IsReadableEnd end → IsSum sum → IsSummedAs h.front sum (ends end)
   end_line end h its is = summed_line (codes "type") (string (codes "end")) (behind (end_slots end)) sum is before all h (ends end) refl (end_numbered end its) (fine_end_summed end sum) (end_read end sum its) refl
+
+  pub record_count_line : (kind : CountKind) (its : RecordCount) (h : HasFrontBehind before all (record_count_value kind its)) → IsReadableRecordCount its → IsSum sum → IsSummedAs h.front sum (counted_as kind its)
+  record_count_line Unsent its h it is = summed_line (codes "type") (string (kind_name Unsent)) (behind (record_count_slots Unsent its)) sum is before all h (counted_as Unsent its) refl (count_line_numbered Unsent its it) (fine_record_count_summed Unsent its sum) (record_count_read Unsent its sum it) refl
+  record_count_line Again its h it is = summed_line (codes "type") (string (kind_name Again)) (behind (record_count_slots Again its)) sum is before all h (counted_as Again its) refl (count_line_numbered Again its it) (fine_record_count_summed Again its sum) (record_count_read Again its sum it) refl

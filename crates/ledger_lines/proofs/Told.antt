@@ -14,23 +14,25 @@ use Rattle.json.specs.Find.{get}
 use Rattle.hex.specs.Hex.{IsBytes, encode_lower, lower_digits}
 use Rattle.hex.proofs.HexLemmas.{decode_of-encode_lower, length-encode_with}
 use Rattle.json_objects.specs.Written.{IsValue}
-use Rattle.ledger_lines.specs.Lines.{AreEach, HasOnly, HasNumber, MayHaveNumber, HasOctets, HasArray, HasRun, HasClient, IsAbout, IsBegin, IsEnd, IsEntry, IsFileBefore, IsLaneCount, IsLaneStart, IsLeft, IsLine, MayHaveFile, MayHaveSum, MayHaveTime, MayHaveWords}
+use Rattle.ledger_lines.specs.Lines.{AreEach, HasOnly, HasNumber, MayHaveNumber, HasOctets, HasArray, HasRun, HasClient, IsAbout, IsBegin, IsEnd, IsEntry, IsFileBefore, IsLaneCount, IsLaneStart, IsLeft, IsLine, IsRecordCount, MayHaveFile, MayHaveSum, MayHaveTime, MayHaveWords}
 use Rattle.rad_config.proofs.Addresses.{address_from_text}
 use Rattle.rad_realms.specs.Address.{IsAddress}
 use Rattle.rad_realms.specs.Printed.{address_text}
 use Rattle.ledger_rules.specs.declared.entry.Entry.{Entry}
 use Rattle.ledger_rules.specs.declared.left.Left.{Left}
 use Rattle.ledger_rules.specs.declared.line_request.LineRequest.{LineRequest}
+use Rattle.ledger_rules.specs.declared.record_count.RecordCount.{RecordCount}
 use Rattle.ledger_lines.specs.declared.begin.Begin.{Begin}
 use Rattle.ledger_lines.specs.declared.begin.FileBefore.{FileBefore}
 use Rattle.ledger_lines.specs.declared.lane_start.LaneStart.{LaneStart}
 use Rattle.json_objects.specs.Written.{items_of, number_value, object_of, present}
 use Rattle.json_objects.proofs.Fine.{keys_all}
 use Rattle.json.specs.Strict.{keys}
-use Rattle.ledger_lines.specs.Written.{AreBytesIfAny, IsBelowIfAny, IsReadableBegin, IsReadableCount, IsReadableEnd, IsReadableEntry, IsReadableFile, IsReadableFileIfAny, IsReadableLeft, IsReadableRequest, IsReadableStart, IsSumIfAny, IsTimeIfAny, begin_slots, count_slots, count_value, digits_if_any, end_slots, entry_slots, file_slots, file_value, lane_slots, left_slots, octets_value, packet_slots, request_slots, start_slots, start_value, state_slots, sum_slot, text_if_any}
+use Rattle.ledger_lines.specs.Written.{AreBytesIfAny, IsBelowIfAny, IsReadableBegin, IsReadableCount, IsReadableEnd, IsReadableEntry, IsReadableFile, IsReadableFileIfAny, IsReadableLeft, IsReadableRecordCount, IsReadableRequest, IsReadableStart, IsSumIfAny, IsTimeIfAny, begin_slots, count_slots, count_value, digits_if_any, end_slots, entry_slots, file_slots, file_value, kind_name, lane_slots, left_slots, octets_value, packet_slots, record_count_slots, request_slots, start_slots, start_value, state_slots, sum_slot, text_if_any}
 use Rattle.ledger_lines.specs.declared.end.End.{End}
 use Rattle.ledger_lines.specs.declared.end.LaneCount.{LaneCount}
 use Rattle.ledger_lines.specs.declared.reading.Line.TheVariants.{Begin as begins, Entry as enters, Left as leaves, End as ends}
+use Rattle.ledger_lines.specs.declared.record_count.CountKind.{CountKind}
 use Rattle.ledger_lines.proofs.Members.{found, found_without, get_found, only_names}
 
 -- ---- numbers
@@ -219,6 +221,24 @@ left_read left sum h =
       sendings = number_if_there (codes "sendings") (2 ^ 32) value left.sendings (at (codes "sendings")) (omega arith) h.sendings;
       accepted = time_if_there (codes "accepted") value (option_copied left.accepted) (at (codes "accepted")) h.accepted;
       request = octets_there (codes "request") value left.request.now (at (codes "request")) h.request;
+    }
+
+-- ---- a line that counts what became of the response of a record
+
+pub record_count_read : (kind : CountKind) (its : RecordCount) (sum : List ℕ) → IsReadableRecordCount its → IsRecordCount (kind_name kind) (object_of (summed (record_count_slots kind its) sum)) its
+record_count_read kind its sum h =
+    let slots = summed (record_count_slots kind its) sum in
+    let at = λ (key : List ℕ). get_found key slots refl in
+    let value = object_of slots in
+    record {
+      no_other = only_names slots;
+      type_is = at (codes "type");
+      run = run_there value its.run (at (codes "run")) h.run;
+      time = record { there = at (codes "time"); is = h.time };
+      home = at (codes "home");
+      lane = number_there (codes "lane") (2 ^ 16) value its.lane (at (codes "lane")) (omega (arith, h.lane)) h.lane;
+      record_is = number_there (codes "record") (2 ^ 64) value its.number (at (codes "record")) h.record_is h.record_is;
+      count = record { there = number_there (codes "count") (2 ^ 64) value its.count (at (codes "count")) h.count h.count; some = h.some };
     }
 
 -- ---- a line that names a run

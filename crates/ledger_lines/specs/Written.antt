@@ -10,6 +10,7 @@ use Rattle.rad_realms.specs.Printed.{address_text}
 use Rattle.ledger_rules.specs.declared.entry.Entry.{Entry}
 use Rattle.ledger_rules.specs.declared.left.Left.{Left}
 use Rattle.ledger_rules.specs.declared.line_request.LineRequest.{LineRequest}
+use Rattle.ledger_rules.specs.declared.record_count.RecordCount.{RecordCount}
 use Rattle.json_objects.specs.Written.{items_of, number_value, object_of}
 pub use Rattle.json_objects.specs.Written.{HasBodyBehind, HasFrontBehind}
 use Rattle.ledger_lines.specs.Lines.{IsLine, IsTime, state_text}
@@ -19,6 +20,9 @@ use Rattle.ledger_lines.specs.declared.begin.FileBefore.{FileBefore}
 use Rattle.ledger_lines.specs.declared.end.LaneCount.{LaneCount}
 use Rattle.ledger_lines.specs.declared.lane_start.LaneStart.{LaneStart}
 use Rattle.ledger_lines.specs.declared.reading.Line.{Line}
+use Rattle.ledger_lines.specs.declared.reading.Line.TheVariants.{Again as repeats, Unsent as unsends}
+use Rattle.ledger_lines.specs.declared.record_count.CountKind.{CountKind}
+use Rattle.ledger_lines.specs.declared.record_count.CountKind.TheVariants.{Again, Unsent}
 
 -- Octets, as two hexadecimal digits each.
 abbrev pub octets_value : List ℕ → Json
@@ -120,6 +124,24 @@ end_slots end =
 abbrev pub end_value : End → Json
 end_value end = object_of (end_slots end)
 
+-- A line that counts what became of the response of a record, by what it counts; and as which line it is read.
+abbrev pub kind_name : CountKind → List ℕ
+kind_name Unsent = codes "unsent"
+kind_name Again = codes "again"
+
+abbrev pub record_count_slots : CountKind → RecordCount → List (List ℕ × Option Json)
+record_count_slots kind its =
+    first_slots (kind_name kind) its.run its.time.now
+    ++ (codes "home", Some (string its.home.now)) ∷ (codes "lane", Some (number_value its.lane))
+    ∷ (codes "record", Some (number_value its.number)) ∷ (codes "count", Some (number_value its.count)) ∷ []
+
+abbrev pub record_count_value : CountKind → RecordCount → Json
+record_count_value kind its = object_of (record_count_slots kind its)
+
+abbrev pub counted_as : CountKind → RecordCount → Line
+counted_as Unsent its = unsends its
+counted_as Again its = repeats its
+
 -- What a reader asks of a number that may be there, of a sum, of a lane that is counted, and of a line that ends a run. The types give the
 -- bounds.
 abbrev pub IsBelowIfAny : ℕ → Option ℕ → Type 0
@@ -204,6 +226,15 @@ pub record IsReadableLeft (left : Left) : Type 0 where
   pub sendings : IsBelowIfAny (2 ^ 32) left.sendings
   pub accepted : IsTimeIfAny (option_copied left.accepted)
   pub request : IsBytes left.request.now
+
+-- The same of a line that counts what became of the response of a record: at least once.
+pub record IsReadableRecordCount (its : RecordCount) : Type 0 where
+  pub run : its.run < 2 ^ 64
+  pub time : IsTime its.time.now
+  pub lane : its.lane < 2 ^ 16
+  pub record_is : its.number < 2 ^ 64
+  pub some : 0 < its.count
+  pub count : its.count < 2 ^ 64
 
 -- The tail that a line gets: its sum, the last of its keys, and its last brace.
 abbrev pub sum_slot : List ℕ → List ℕ × Option Json

@@ -1,14 +1,30 @@
-//! The lines that count what became of the response of a record, read.
+//! The lines that count what became of the response of a record, read and written.
 
-ghost use Rattle.std.specs.Prelude.{ℕ, MatchResult, codes};
+ghost use Rattle.std.specs.Prelude.{◌≡◌, ℕ, IfOk, MatchResult, OnOk, codes};
+ghost use Rattle.json.specs.Tree.{json_tokens};
 ghost use Rattle.json.specs.Value.{value_view};
+ghost use Rattle.json_objects.specs.Adding.{Adds};
+ghost use Rattle.json_objects.specs.Written.{HasBodyBehind, HasFrontBehind};
 ghost use Rattle.ledger_rules.specs.declared.record_count.RecordCount.{RecordCount as TheCount};
 ghost use Rattle.ledger_lines.specs.Lines.{Denies, HasSome, HasText, IsRecordCount};
+ghost use Rattle.ledger_lines.specs.Written.{kind_name, record_count_value};
 
 use crate::faults::LineFault;
 use crate::values::{has_only, number_at, run_at, short_at, text_at, time_at};
-use json::Value;
+use crate::writing::first_members;
+use json::{Value, Writer};
+use json_objects::{close_body, number, text};
 use ledger_rules::RecordCount;
+use std::alloc::{AllocError, Global};
+
+/// What a line counts of the response of a record.
+#[derive(Clone, Copy, PartialEq, Eq, PartialOrd, Ord)]
+pub enum CountKind {
+    /// That it could not be sent.
+    Unsent,
+    /// That it was sent again.
+    Again,
+}
 
 /// The keys of such a line, in the order in which they are written.
 const COUNT_KEYS: [&str; 8] = [
@@ -52,4 +68,48 @@ fn some_at(value: &Value<'_>) -> Result<u64, LineFault>
         return Err(LineFault::NotALine);
     }
     Ok(count)
+}
+
+/// Writes such a line, without its last brace, behind what these octets are.
+///
+/// # Errors
+///
+/// Where memory is refused.
+pub fn write_record_count(
+    alloc: Global,
+    kind: CountKind,
+    count: &RecordCount<'_>,
+    out: Vec<u8>,
+) -> Result<Vec<u8>, AllocError>
+    ensures body { IfOk result (λ all. HasBodyBehind out.items all.items) }
+    ensures value { IfOk result (λ all. HasFrontBehind out.items all.items (record_count_value kind count.now)) }
+{
+    let mut writer = Writer::new(out);
+    count_members(alloc, &mut writer, kind, count)?;
+    Ok(close_body(writer))
+}
+
+fn count_members(
+    alloc: Global,
+    writer: &mut Writer,
+    kind: CountKind,
+    count: &RecordCount<'_>,
+) -> Result<(), AllocError>
+    ensures { OnOk result (Adds writer.old writer.new (json_tokens (record_count_value kind count.now))) }
+{
+    first_members(alloc, writer, name_of(kind), count.run, count.time)?;
+    text(writer, "home", count.home)?;
+    number(writer, "lane", u64::from(count.lane))?;
+    number(writer, "record", count.number)?;
+    number(writer, "count", count.count)?;
+    writer.end_object()
+}
+
+fn name_of(kind: CountKind) -> &'static str
+    ensures { result.now ≡ kind_name kind }
+{
+    match kind {
+        CountKind::Unsent => "unsent",
+        CountKind::Again => "again",
+    }
 }

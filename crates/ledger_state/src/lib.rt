@@ -13,6 +13,7 @@ mod file_sums;
 mod handlings;
 mod lane_state;
 mod log_lines;
+mod responses;
 mod state;
 
 pub use fault::{LedgerFault, system_number};

@@ -7,10 +7,11 @@ use crate::file_sums::{FileSum, FileSums};
 use crate::handlings::{Handling, UNKNOWN};
 use crate::lane_state::{LaneState, LostSerials};
 use crate::log_lines::{LedgerLine, log_ledger_fault};
+use crate::responses::Responses;
 use rad_log::{Level, Log, WriterState, tell};
 use std::alloc::{AllocError, Global};
 use std::sync::atomic::{AtomicU64, Ordering};
-use std::sync::{OnceLock, Wait};
+use std::sync::{Mutex, OnceLock, Wait};
 use std::time::{Clock, Duration, Instant};
 
 /// What is known of a ledger at one moment.
@@ -55,6 +56,8 @@ pub struct LedgerState {
     lost: AtomicU64,
     /// The lanes, in order.
     lanes: Vec<LaneState>,
+    /// The responses that were sent last. The front's thread alone locks it.
+    responses: Mutex<Responses>,
     /// The sums that are to be logged.
     sums: FileSums,
     /// The fault that is to be logged, as a number; 0 if there is none.
@@ -91,6 +94,7 @@ impl LedgerState {
             client_dropped.push(AtomicU64::new(0))?;
         }
         let lanes = LaneState::of_lanes(alloc, places)?;
+        let responses = Mutex::new(Responses::new(alloc)?);
         let sums = FileSums::new(alloc)?;
         Ok(LedgerState {
             begun: AtomicU64::new(0),
@@ -102,6 +106,7 @@ impl LedgerState {
             unsynced: AtomicU64::new(0),
             lost: AtomicU64::new(0),
             lanes,
+            responses,
             sums,
             fault: AtomicU64::new(0),
             is_back: AtomicU64::new(0),
@@ -154,6 +159,25 @@ impl LedgerState {
             Some(state) => state.handlings.of(number),
             None => UNKNOWN,
         }
+    }
+
+    /// Records that this response to the request of this number of a lane is about to be sent.
+    pub fn send_response(&self, lane: u16, number: u64, response: &[u8]) {
+        if let Some(mut responses) = self.responses.try_lock() {
+            responses.send(lane, number, response);
+        }
+    }
+
+    /// Records that a datagram of the front was lost.
+    pub fn lose_response(&self, datagram: &[u8]) {
+        if let Some(mut responses) = self.responses.try_lock() {
+            responses.lose(datagram);
+        }
+    }
+
+    /// Takes the record whose response was lost first, of those that were not taken: the number of its lane, and its number.
+    pub fn take_lost(&self) -> Option<(u16, u64)> {
+        self.responses.try_lock()?.take_lost()
     }
 
     /// Records that the response of this serial of a lane was handed over.

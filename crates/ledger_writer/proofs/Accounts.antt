@@ -8,10 +8,11 @@ use Rattle.rtrb.specs.Ring.{sent}
 use Rattle.rad_desk.specs.HandOver.{Handing}
 use Rattle.rad_desk.specs.Leaving.{Left, as_left}
 use Rattle.rad_desk.specs.declared.leaving.LeftRecord.{LeftRecord}
-use Rattle.ledger_writer.specs.Accounted.{AreAccountedFor, Fate, IsItsParcel, IsRight, Subject, response, request, heads_of, packets_in, request_of, response_of}
+use Rattle.ledger_writer.specs.Accounted.{AreAccountedFor, Fate, IsItsParcel, IsRight, Subject, counted, response, request, heads_of, packets_in, request_of, response_of}
 use Rattle.ledger_writer.specs.Buffer.{Gives, GivesNothing}
-use Rattle.ledger_writer.specs.Parcels.{IsParcelOf, IsParcelOfLeft}
+use Rattle.ledger_writer.specs.Parcels.{IsParcelOf, IsParcelOfCount, IsParcelOfLeft}
 use Rattle.ledger_writer.specs.declared.giving.ParcelGiver.{ParcelGiver}
+use Rattle.ledger_writer.specs.declared.parcel.CountKey.{CountKey}
 use Rattle.ledger_writer.specs.declared.parcel.Parcel.{Parcel}
 
 -- What is made of each of some items, and of one more.
@@ -66,6 +67,19 @@ response_given is old new handed after left same handing parcel its gives more s
       fates = given.fates;
       responses = more ∙ given.responses;
       requests = still ∙ sym (append-nil left) ∙ given.requests;
+      heads = given.heads;
+      packets = given.packets;
+      right = given.right;
+    }
+
+-- So many are counted of a record.
+pub count_given : (is : Bool) (old new : ParcelGiver) (handed : List Handing) (left : List Left) (key : CountKey) (count : ℕ) (parcel : Parcel) → ((time : ℕ) × IsParcelOfCount time key count parcel) → MatchBool is (Gives old parcel new) (GivesNothing old new) → AreAccountedFor old handed left → AreAccountedFor new handed left
+count_given is old new handed left key count parcel its gives are =
+    let given = either_given is old new handed left (counted key count) parcel its gives are in
+    record {
+      fates = given.fates;
+      responses = sym (append-nil handed) ∙ given.responses;
+      requests = sym (append-nil left) ∙ given.requests;
       heads = given.heads;
       packets = given.packets;
       right = given.right;

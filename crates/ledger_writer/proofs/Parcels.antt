@@ -4,13 +4,14 @@ use Rattle.std.proofs.lemmas.List.{take_at}
 use mathlib.Core.List.{IsPrefix}
 use Rattle.ledger_writer.specs.Parcels.{AreCounted, FitsBy, all_octets, octets_by, octets_of}
 use Rattle.ledger_writer.specs.declared.parcel.ParcelKind.{ParcelKind}
-use Rattle.ledger_writer.specs.declared.parcel.ParcelKind.TheVariants.{Left, Response}
+use Rattle.ledger_writer.specs.declared.parcel.ParcelKind.TheVariants.{Count, Left, Response}
 use Rattle.ledger_writer.specs.declared.parcel.ParcelHead.{ParcelHead}
 
 -- The packets have as many octets as the head counts.
 pub counted_sum : (its : ParcelKind) (a b c : List ℕ) → AreCounted its a b c → octets_by its ≡ length a + length b + length c
 counted_sum (Response serial x y z) a b c is = omega (arith, is.0, is.1, is.2)
 counted_sum (Left state x) a b c is = omega (arith, is.0, ap length is.1, ap length is.2)
+counted_sum (Count kind x) a b c is = omega (arith, ap length is.0, ap length is.1, ap length is.2)
 
 pub joined_length : (a b c : List ℕ) → length (a ++ (b ++ c)) ≡ length a + length b + length c
 joined_length a b c = omega (arith, length-append a (b ++ c), length-append b c)
@@ -28,6 +29,7 @@ whole_with_one octets more heads head whole one = omega (arith, length-append oc
 pub fits_within : (its : ParcelKind) → FitsBy its → octets_by its ≤ 12288
 fits_within (Response serial x y z) fits = omega (arith, fits.0, fits.1, fits.2)
 fits_within (Left state x) fits = omega (arith, fits)
+fits_within (Count kind x) fits = omega arith
 
 -- Three parts at the front of a list.
 pub three_at_front : (octets a b c rest : List ℕ) (count : ℕ) → octets ≡ a ++ (b ++ (c ++ rest)) → count ≡ length a + length b + length c → a ++ (b ++ c) ≡ take count octets

@@ -3,18 +3,20 @@ use Rattle.std.specs.Prelude.{◌≡◌, ℕ, ◌⊎◌, ⊤, List, [], Option, 
 use Rattle.ledger_files.specs.Moments.{IsTimeOf, moment_text}
 use Rattle.ledger_files.specs.declared.utc.UtcTime.{UtcTime}
 use Rattle.json_objects.specs.Written.{HasFrontBehind}
-use Rattle.ledger_lines.specs.Written.{entry_value, left_value}
+use Rattle.ledger_lines.specs.Written.{entry_value, left_value, record_count_value}
+use Rattle.ledger_lines.specs.declared.record_count.CountKind.{CountKind}
 use Rattle.rad_config.specs.Realm.{realm_of_packet}
 use Rattle.rad_desk.specs.ToldValues.{first_value, status_in}
 use Rattle.rad_lane.specs.Session.{session_id}
 use Rattle.ledger_rules.specs.declared.entry.Entry.{Entry}
 use Rattle.ledger_rules.specs.declared.left.Left.{Left}
 use Rattle.ledger_rules.specs.declared.line_request.LineRequest.{LineRequest}
+use Rattle.ledger_rules.specs.declared.record_count.RecordCount.{RecordCount}
 use Rattle.rad_packet.specs.Reading.{ReadsAs, Refuses}
 use Rattle.rad_packet.specs.declared.faults.ReadFault.{ReadFault}
 use Rattle.rad_lane.specs.declared.leftover.LeftState.{LeftState}
 use Rattle.ledger_writer.specs.declared.parcel.ParcelKind.{ParcelKind}
-use Rattle.ledger_writer.specs.declared.parcel.ParcelKind.TheVariants.{Left as left, Response as response}
+use Rattle.ledger_writer.specs.declared.parcel.ParcelKind.TheVariants.{Count as counted, Left as left, Response as response}
 use Rattle.ledger_writer.specs.declared.parcel.Parcel.{Parcel}
 use Rattle.ledger_writer.specs.declared.parcel.ParcelHead.{ParcelHead}
 use Rattle.ledger_writer.specs.declared.run_names.RunNames.{RunNames}
@@ -106,9 +108,26 @@ pub record HasLeftBehind (names : RunNames) (parcel : Parcel) (its_state : LeftS
   pub is : IsLeftOf names parcel.head its_state parcel.sent.now moment since left
   pub line : HasFrontBehind before all (left_value left)
 
+-- The same of a count: the run's name, that of the lane's home server, and what the head tells.
+pub record IsCountOf (names : RunNames) (head : ParcelHead) (its : ℕ) (moment : List ℕ) (told : RecordCount) : Type 0 where
+  pub run : told.run ≡ names.run
+  pub time : told.time.now ≡ moment
+  pub home : IsHome names head.lane told.home.now
+  pub lane : told.lane ≡ head.lane
+  pub number : told.number ≡ head.number
+  pub count : told.count ≡ its
+
+pub record HasCountBehind (names : RunNames) (head : ParcelHead) (kind : CountKind) (its : ℕ) (before all : List ℕ) : Type 0 where
+  pub moment : List ℕ
+  pub told : RecordCount
+  pub time : IsMomentText head.time moment
+  pub is : IsCountOf names head its moment told
+  pub line : HasFrontBehind before all (record_count_value kind told)
+
 abbrev pub HasLineOf : ParcelKind → RunNames → Parcel → List ℕ → List ℕ → Type 0
 HasLineOf (response serial sent_count reply_count response_count) names parcel before all = HasEntryBehind names parcel serial before all
 HasLineOf (left state request_count) names parcel before all = HasLeftBehind names parcel state before all
+HasLineOf (counted kind count) names parcel before all = HasCountBehind names parcel.head kind count before all
 
 abbrev pub HasParcelBehind : RunNames → Parcel → List ℕ → List ℕ → Type 0
 HasParcelBehind names parcel before all = HasLineOf parcel.head.its names parcel before all

@@ -1,11 +1,12 @@
--- A parcel (own): a response, or a request that is left, as it passes through the buffer.
-use Rattle.std.specs.Prelude.{◌≡◌, ℕ, ◌+◌, ◌-◌, ◌≤◌, List, [], ◌∷◌, ◌++◌, length, Option, Some, None, option_map}
+-- A parcel (own): a response, a request that is left, or a count, as it passes through the buffer.
+use Rattle.std.specs.Prelude.{◌≡◌, ℕ, ◌+◌, ◌-◌, ◌≤◌, List, [], ◌∷◌, ◌++◌, length, Option, Some, None, option_map, ⊤}
 use Rattle.rad_auth.specs.Mark.{EndsWithMark}
 use Rattle.ledger_files.specs.declared.batch.LineHead.{LineHead}
 use Rattle.rad_lane.specs.declared.outgoing.Outgoing.{Outgoing}
 use Rattle.rad_desk.specs.declared.leaving.LeftRecord.{LeftRecord}
+use Rattle.ledger_writer.specs.declared.parcel.CountKey.{CountKey}
 use Rattle.ledger_writer.specs.declared.parcel.ParcelKind.{ParcelKind}
-use Rattle.ledger_writer.specs.declared.parcel.ParcelKind.TheVariants.{Left, Response}
+use Rattle.ledger_writer.specs.declared.parcel.ParcelKind.TheVariants.{Count, Left, Response}
 use Rattle.ledger_writer.specs.declared.parcel.Parcel.{Parcel}
 use Rattle.ledger_writer.specs.declared.parcel.ParcelHead.{ParcelHead}
 
@@ -13,6 +14,7 @@ use Rattle.ledger_writer.specs.declared.parcel.ParcelHead.{ParcelHead}
 abbrev pub octets_by : ParcelKind → ℕ
 octets_by (Response serial sent_count reply_count response_count) = sent_count + reply_count + response_count
 octets_by (Left state request_count) = request_count
+octets_by (Count kind count) = 0
 
 abbrev pub octets_of : ParcelHead → ℕ
 octets_of head = octets_by head.its
@@ -20,6 +22,7 @@ octets_of head = octets_by head.its
 abbrev pub FitsBy : ParcelKind → Type 0
 FitsBy (Response serial sent_count reply_count response_count) = (sent_count ≤ 4096) × (reply_count ≤ 4096) × (response_count ≤ 4096)
 FitsBy (Left state request_count) = request_count ≤ 4096
+FitsBy (Count kind count) = ⊤
 
 abbrev pub Fits : ParcelHead → Type 0
 Fits head = FitsBy head.its
@@ -33,12 +36,13 @@ abbrev pub all_octets : List ParcelHead → ℕ
 all_octets [] = 0
 all_octets (head ∷ heads) = octets_of head + all_octets heads
 
--- The head has the lengths of these packets. A request that is left is one packet.
+-- The head has the lengths of these packets. A request that is left is one packet, and a count has none.
 abbrev pub AreCounted : ParcelKind → List ℕ → List ℕ → List ℕ → Type 0
 AreCounted (Response serial sent_count reply_count response_count) its_sent its_reply its_response =
     (sent_count ≡ length its_sent) × (reply_count ≡ length its_reply) × (response_count ≡ length its_response)
 AreCounted (Left state request_count) its_sent its_reply its_response =
     (request_count ≡ length its_sent) × (its_reply ≡ []) × (its_response ≡ [])
+AreCounted (Count kind count) its_sent its_reply its_response = (its_sent ≡ []) × (its_reply ≡ []) × (its_response ≡ [])
 
 abbrev pub IsCounted : Parcel → Type 0
 IsCounted parcel = AreCounted parcel.head.its parcel.sent.now parcel.reply.now parcel.response.now
@@ -74,16 +78,24 @@ pub record IsParcelOfLeft (now : ℕ) (told : LeftRecord) (parcel : Parcel) : Ty
   pub authenticator : parcel.head.authenticator ≡ told.authenticator
   pub request : parcel.sent.now ≡ told.request.now
 
+-- This is the parcel of so many that are counted of a record, at this time.
+pub record IsParcelOfCount (now : ℕ) (key : CountKey) (count : ℕ) (parcel : Parcel) : Type 0 where
+  pub its : parcel.head.its ≡ Count key.kind count
+  pub time : parcel.head.time ≡ now
+  pub number : parcel.head.number ≡ key.number
+  pub lane : parcel.head.lane ≡ key.lane
+
 -- The parcel has this head, and these octets are its packets, one behind the other.
 pub record HasPackets (head : ParcelHead) (octets : List ℕ) (parcel : Parcel) : Type 0 where
   pub its_head : parcel.head ≡ head
   pub counted : IsCounted parcel
   pub packets : packets_of parcel ≡ octets
 
--- What a batch keeps of a head: a request that is left has no serial.
+-- What a batch keeps of a head: a response alone has a serial.
 abbrev pub serial_by : ParcelKind → Option ℕ
 serial_by (Response serial sent_count reply_count response_count) = Some serial
 serial_by (Left state request_count) = None
+serial_by (Count kind count) = None
 
 pub record IsLineHead (head : ParcelHead) (line : LineHead) : Type 0 where
   pub time : line.time ≡ head.time

@@ -5,10 +5,11 @@ ghost use Rattle.rtrb.specs.Ring.{sent};
 ghost use Rattle.rad_desk.specs.HandOver.{handed_at};
 ghost use Rattle.rad_desk.specs.Leaving.{as_left};
 ghost use Rattle.ledger_writer.specs.Buffer.{Gives, GivesNothing};
-ghost use Rattle.ledger_writer.specs.Parcels.{Fits, IsCounted, IsParcelOf, IsParcelOfLeft};
+ghost use Rattle.ledger_writer.specs.declared.parcel.Parcel.{Parcel as TheParcel};
+ghost use Rattle.ledger_writer.specs.Parcels.{Fits, IsCounted, IsParcelOf, IsParcelOfCount, IsParcelOfLeft};
 
 use crate::giving::ParcelGiver;
-use crate::parcel::{Parcel, ParcelHead};
+use crate::parcel::{CountKey, Parcel, ParcelHead};
 use crate::shares::Taking;
 use rad_desk::{Handed, LeftList, LeftRecord, Wire};
 use rad_lane::Outgoing;
@@ -18,7 +19,7 @@ use std::marker::Model;
 /// as left so far.
 ///
 /// Its type guarantees that each of these was put into the buffer as its parcel or dropped, in order, and that nothing else
-/// was put there.
+/// was put there but counts.
 #[derive(Drop)]
 pub(crate) struct AccountedGiver {
     giver: ParcelGiver,
@@ -86,6 +87,20 @@ impl AccountedGiver {
             self.left.add(told);
         }
         is_put
+    }
+
+    /// Puts so many that are counted of a record into the buffer, and returns whether it did: only if at least half of the
+    /// buffer stays free.
+    pub(crate) fn give_count(&mut self, time: u64, key: CountKey, count: u64) -> bool
+        ensures put { MatchBool result ((parcel : TheParcel) × IsParcelOfCount time key count parcel × Gives self.old.giver parcel self.new.giver) (GivesNothing self.old.giver self.new.giver) }
+        ensures handed { self.new.handed ≡ self.old.handed }
+        ensures left { self.new.left ≡ self.old.left }
+    {
+        let parcel = Parcel::of_count(time, key, count);
+        if self.giver.is_past_half(&parcel.head) {
+            return false;
+        }
+        self.giver.give(&parcel)
     }
 
     /// Drops a request that is told as left.

@@ -160,5 +160,11 @@ fn parcel_of(head: ParcelHead, octets: &[u8]) -> Parcel<'_>
                 response: &[],
             }
         }
+        ParcelKind::Count { .. } => Parcel {
+            head,
+            sent: &[],
+            reply: &[],
+            response: &[],
+        },
     }
 }

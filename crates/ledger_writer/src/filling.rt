@@ -1,4 +1,4 @@
-//! Filling a batch with the lines of the entries, and of the requests that are left, that wait.
+//! Filling a batch with the lines of the parcels that wait.
 
 ghost use Rattle.std.specs.Prelude.{◌≡◌, ℕ, List, [], vec_len, IfOk};
 ghost use Rattle.ledger_files.specs.Batches.{HoldsLines};
@@ -79,6 +79,7 @@ fn line_head(head: ParcelHead) -> LineHead
         serial: match head.its {
             ParcelKind::Response { serial, .. } => Some(serial),
             ParcelKind::Left { .. } => None,
+            ParcelKind::Count { .. } => None,
         },
     }
 }

@@ -1,4 +1,4 @@
-//! What the front hands each response to, and at the end each request that is left.
+//! What the front hands each response to, what became of it, and at the end each request that is left.
 
 ghost use Rattle.std.specs.Prelude.{◌≡◌, ◌⊎◌, ◌∷◌, ◌++◌, [], ℕ, Some, MatchBool, vec_len};
 ghost use Rattle.rad_desk.specs.HandOver.{handed_at};
@@ -7,8 +7,10 @@ ghost use Rattle.ledger_writer.specs.Buffer.{Gives, GivesNothing, PutsEntry};
 ghost use Rattle.ledger_writer.specs.Parcels.{IsCounted, IsParcelOfLeft};
 
 use crate::accounting::AccountedGiver;
-use crate::parcel::{Parcel, ParcelHead};
+use crate::parcel::{CountKey, Parcel, ParcelHead};
+use crate::record_counts::RecordCounts;
 use crate::shares::{ClientShares, NOTHING, Taking};
+use ledger_lines::CountKind;
 use ledger_state::LedgerState;
 use rad_auth::Mark;
 use rad_desk::{Ledger, LeftRecord, Wire};
@@ -20,6 +22,12 @@ use std::time::{Clock, Duration, Instant};
 
 /// How many milliseconds pass between two looks whether there is room.
 const LOOK: u64 = 1;
+
+/// How many counts that are due a call tells.
+const DUE: usize = 16;
+
+/// How often at most that many responses that were lost are counted at the end of a lane.
+const MOST_LOST: usize = 256;
 
 /// What the front puts into the buffer. An entry that finds no room there, or is beyond the share of its client, is dropped
 /// and counted. A request that is left waits for room, as long as there is time.
@@ -34,6 +42,7 @@ pub struct LedgerInlet<'a, R> {
     pub(crate) accounted: AccountedGiver,
     /// What the entries of each client took of the buffer so far, in the order of the configuration.
     pub(crate) puts: Vec<Taking>,
+    pub(crate) counts: RecordCounts,
     pub(crate) shares: Arc<ClientShares>,
     pub(crate) state: Arc<LedgerState>,
 }
@@ -59,14 +68,25 @@ impl<R: Clock + Wait> Ledger for LedgerInlet<'_, R> {
     }
 
     fn keep<W: Wire>(&mut self, outgoing: &Outgoing, wire: &W) {
-        let lane = outgoing.reply.mark().lane;
+        let Mark { lane, number } = outgoing.reply.mark();
+        let response = outgoing.reply.response();
         self.state.hand_over(lane, outgoing.serial);
+        self.state.send_response(lane, number, response);
         let row = self.shares.row(outgoing.client);
-        if self.put(outgoing, wire, row) {
+        let is_put = self.put(outgoing, wire, row);
+        self.counts.set_gap(lane, !is_put);
+        if is_put {
             self.state.count_put(self.time);
         } else {
             self.state.count_dropped(row);
         }
+    }
+
+    fn send_again(&mut self, lane: u16, number: u64, response: &[u8]) {
+        self.state.send_response(lane, number, response);
+        self.read_time();
+        self.count(CountKind::Again, lane, number);
+        self.tell_due(self.time);
     }
 
     fn leave(&mut self, told: &LeftRecord<'_>) {
@@ -76,7 +96,106 @@ impl<R: Clock + Wait> Ledger for LedgerInlet<'_, R> {
     }
 
     fn end_lane(&mut self, lane: u16, counts: &Counts) {
+        self.read_time();
+        self.tell_all(lane);
         self.state.end_lane(lane, counts.accepted);
+    }
+}
+
+impl<R: Clock> LedgerInlet<'_, R> {
+    /// Counts one more of a record.
+    fn count(&mut self, kind: CountKind, lane: u16, number: u64)
+        ensures handed { self.new.accounted.handed ≡ self.old.accounted.handed }
+        ensures left { self.new.accounted.left ≡ self.old.accounted.left }
+    {
+        let key = CountKey { lane, number, kind };
+        if self.counts.add(key) {
+            return;
+        }
+        if self.counts.is_full() {
+            self.tell_oldest();
+        }
+        self.counts.remember(self.time, key, 1);
+    }
+
+    /// Tells the count that waits longest.
+    fn tell_oldest(&mut self)
+        ensures handed { self.new.accounted.handed ≡ self.old.accounted.handed }
+        ensures left { self.new.accounted.left ≡ self.old.accounted.left }
+    {
+        if let Some((key, count)) = self.counts.take() {
+            self.tell(self.time, key, count);
+        }
+    }
+
+    /// Counts some of the responses that were lost, and returns whether these were all.
+    fn count_lost(&mut self) -> bool
+        ensures handed { self.new.accounted.handed ≡ self.old.accounted.handed }
+        ensures left { self.new.accounted.left ≡ self.old.accounted.left }
+    {
+        for _ in 0..DUE {
+            let Some((lane, number)) = self.state.take_lost() else {
+                return true;
+            };
+            self.count(CountKind::Unsent, lane, number);
+        }
+        false
+    }
+
+    /// Counts all responses that were lost.
+    fn count_all_lost(&mut self)
+        ensures handed { self.new.accounted.handed ≡ self.old.accounted.handed }
+        ensures left { self.new.accounted.left ≡ self.old.accounted.left }
+    {
+        for _ in 0..MOST_LOST {
+            if self.count_lost() {
+                return;
+            }
+        }
+    }
+
+    /// Tells so many of a record, unless the buffer has no room for that or the lane's last entry was dropped. Then they
+    /// are told later.
+    fn tell(&mut self, time: u64, key: CountKey, count: u64)
+        ensures handed { self.new.accounted.handed ≡ self.old.accounted.handed }
+        ensures left { self.new.accounted.left ≡ self.old.accounted.left }
+    {
+        if self.counts.is_gap(key.lane) || !self.accounted.give_count(time, key, count) {
+            self.counts.remember(time, key, count);
+        }
+    }
+
+    /// Counts what was lost, and tells some of what was counted long enough.
+    fn tell_due(&mut self, time: u64)
+        ensures handed { self.new.accounted.handed ≡ self.old.accounted.handed }
+        ensures left { self.new.accounted.left ≡ self.old.accounted.left }
+    {
+        self.count_lost();
+        for _ in 0..DUE {
+            let Some((key, count)) = self.counts.take_due(time) else {
+                return;
+            };
+            self.tell(time, key, count);
+        }
+    }
+
+    /// Tells all that was counted of the records of a lane, which ends.
+    fn tell_all(&mut self, lane: u16)
+        ensures handed { self.new.accounted.handed ≡ self.old.accounted.handed }
+        ensures left { self.new.accounted.left ≡ self.old.accounted.left }
+    {
+        let time = self.time;
+        self.count_all_lost();
+        for _ in 0..self.counts.len() {
+            let Some((key, count)) = self.counts.take() else {
+                return;
+            };
+            if key.lane == lane {
+                self.tell(time, key, count);
+            } else {
+                self.counts.remember(time, key, count);
+            }
+        }
     }
 }
 

@@ -26,6 +26,7 @@ mod lines;
 mod opening;
 mod parcel;
 mod progress;
+mod record_counts;
 mod run_names;
 mod runtime_disk;
 mod shares;

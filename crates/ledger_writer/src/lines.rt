@@ -2,7 +2,7 @@
 
 ghost use Rattle.std.specs.Prelude.{◌≡◌, ◌<◌, ◌^◌, IfOk, MatchOption, None, length, option_copied, option_map, slice_get, string_bytes};
 ghost use Rattle.json_objects.specs.Written.{HasBodyBehind};
-ghost use Rattle.ledger_writer.specs.Entries.{HasEntryBehind, HasLeftBehind, HasParcelBehind, IsAboutOf, IsEntryOf, IsLeftOf, IsMomentIfAny, IsMomentText, Tells};
+ghost use Rattle.ledger_writer.specs.Entries.{HasCountBehind, HasEntryBehind, HasLeftBehind, HasParcelBehind, IsAboutOf, IsCountOf, IsEntryOf, IsLeftOf, IsMomentIfAny, IsMomentText, Tells};
 ghost use Rattle.ledger_writer.specs.RunLines.{AreCounted, AreStarts, BeginsBehind, EndsBehind, NamesIfAny, count_in, lane_number, serial_in};
 
 use crate::parcel::{Parcel, ParcelHead, ParcelKind};
@@ -10,9 +10,10 @@ use crate::progress::LaneProgress;
 use crate::run_names::RunNames;
 use ledger_files::{FoundFile, UtcTime};
 use ledger_lines::{
-    Begin, End, FileBefore, LaneCount, LaneStart, write_begin, write_end, write_entry, write_left,
+    Begin, CountKind, End, FileBefore, LaneCount, LaneStart, write_begin, write_end, write_entry,
+    write_left, write_record_count,
 };
-use ledger_rules::{Entry, Left, LineRequest};
+use ledger_rules::{Entry, Left, LineRequest, RecordCount};
 use ledger_state::LedgerState;
 use rad_desk::{status_of, user_of};
 use rad_lane::{LeftState, session_of};
@@ -37,6 +38,9 @@ pub(crate) fn line_of(
     match parcel.head.its {
         ParcelKind::Response { serial, .. } => entry_line(alloc, names, parcel, serial, out),
         ParcelKind::Left { state, .. } => left_line(alloc, names, parcel, state, out),
+        ParcelKind::Count { kind, count } => {
+            count_line(alloc, names, &parcel.head, kind, count, out)
+        }
     }
 }
 
@@ -78,6 +82,37 @@ fn left_line(
         lent(&accepted),
     );
     write_left(alloc, &left, out)
+}
+
+fn count_line(
+    alloc: Global,
+    names: &RunNames,
+    head: &ParcelHead,
+    kind: CountKind,
+    count: u64,
+    out: Vec<u8>,
+) -> Result<Vec<u8>, AllocError>
+    ensures body { IfOk result (λ all. HasBodyBehind out.items all.items) }
+    ensures value { IfOk result (λ all. HasCountBehind names.now head.now kind count out.items all.items) }
+{
+    let time = time_text(alloc, head.time)?;
+    let told = told_of(names, head, count, time.as_str());
+    write_record_count(alloc, kind, &told, out)
+}
+
+fn told_of<'a>(names: &'a RunNames, head: &ParcelHead, count: u64, time: &'a str) -> RecordCount<'a>
+    ensures { IsCountOf names.now head.now count time.now result }
+{
+    let lane = head.lane;
+    let number = head.number;
+    RecordCount {
+        run: names.run,
+        time,
+        home: names.home(lane),
+        lane,
+        number,
+        count,
+    }
 }
 
 fn lent(text: &Option<String>) -> Option<&str>

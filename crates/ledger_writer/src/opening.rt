@@ -10,6 +10,7 @@ use crate::filling::new_batch;
 use crate::giving::{PLACES, ParcelGiver, ROOM};
 use crate::inlet::LedgerInlet;
 use crate::progress::{LaneProgress, NOT_BEGUN};
+use crate::record_counts::RecordCounts;
 use crate::run_names::RunNames;
 use crate::shares::{ClientShares, NOTHING, Taking};
 use crate::writer::{LedgerWriter, LineSource};
@@ -100,7 +101,8 @@ pub fn open_ledger<'a, R: Clock + RandomSource>(
     };
     let (giver, entries) = open_buffer(alloc, &shared)?;
     let puts = no_puts(alloc, clients.len())?;
-    let inlet = open_inlet(rt, giver, puts, &shared, longest)?;
+    let counts = RecordCounts::new(alloc, config.homes().len())?;
+    let inlet = open_inlet(rt, giver, (puts, counts), &shared, longest)?;
     let source = open_source(
         alloc,
         draw_name(rt),
@@ -156,7 +158,7 @@ fn open_buffer(alloc: Global, shared: &Shared) -> Result<(ParcelGiver, EntryBuff
 fn open_inlet<'a, R: Clock>(
     rt: &'a R,
     giver: ParcelGiver,
-    puts: Vec<Taking>,
+    counted: (Vec<Taking>, RecordCounts),
     shared: &Shared,
     longest: Duration,
 ) -> Result<LedgerInlet<'a, R>, AllocError>
@@ -164,14 +166,16 @@ fn open_inlet<'a, R: Clock>(
     ensures kept { IfOk result (λ inlet. inlet.accounted.handed ≡ []) }
     ensures left { IfOk result (λ inlet. inlet.accounted.left ≡ []) }
     ensures giver { IfOk result (λ inlet. inlet.accounted.giver ≡ giver) }
-    ensures puts { IfOk result (λ inlet. inlet.puts ≡ puts) }
+    ensures puts { IfOk result (λ inlet. inlet.puts ≡ counted.0) }
 {
+    let (puts, counts) = counted;
     Ok(LedgerInlet {
         clock: rt,
         longest,
         time: 0,
         accounted: AccountedGiver::new(giver),
         puts,
+        counts,
         shares: Arc::try_clone(&shared.shares)?,
         state: Arc::try_clone(&shared.state)?,
     })

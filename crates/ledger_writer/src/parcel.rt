@@ -1,9 +1,10 @@
-//! A response, or a request that is left, as it passes through the buffer: a head, and the packets: three of a response,
-//! one of a request that is left.
+//! What passes through the buffer: a head, and the packets: three of a response, one of a request that is left, none of a
+//! count.
 
 ghost use Rattle.std.specs.Prelude.{◌≡◌, ◌↔◌, ◌-◌, IsTrue, option_map};
-ghost use Rattle.ledger_writer.specs.Parcels.{Fits, IsCounted, IsParcelOf, IsParcelOfLeft, octets_of};
+ghost use Rattle.ledger_writer.specs.Parcels.{Fits, IsCounted, IsParcelOf, IsParcelOfCount, IsParcelOfLeft, octets_of};
 
+use ledger_lines::CountKind;
 use ledger_state::Handling;
 use rad_auth::{Mark, RequestHead};
 use rad_desk::LeftRecord;
@@ -18,7 +19,7 @@ pub(crate) const MOST: usize = 3 * LONGEST;
 /// What a parcel has beside its packets.
 #[derive(Clone, Copy)]
 pub(crate) struct ParcelHead {
-    /// When the response was handed over, or the request was told as left, in milliseconds since 1970.
+    /// When it was put into the buffer, in milliseconds since 1970.
     pub(crate) time: u64,
     /// The number of the request in its lane.
     pub(crate) number: u64,
@@ -50,17 +51,30 @@ pub(crate) enum ParcelKind {
         /// How many octets it has.
         request: usize,
     },
+    /// How often the response of a record could not be sent, or was sent again. Its head tells the record alone.
+    Count {
+        kind: CountKind,
+        count: u64,
+    },
+}
+
+/// What is counted of which record.
+#[derive(Clone, Copy, PartialEq, Eq, PartialOrd, Ord)]
+pub(crate) struct CountKey {
+    pub(crate) lane: u16,
+    pub(crate) number: u64,
+    pub(crate) kind: CountKind,
 }
 
 /// A parcel: its head and its packets.
 #[derive(Clone, Copy)]
 pub(crate) struct Parcel<'a> {
     pub(crate) head: ParcelHead,
-    /// The packet to the home server, or the request that is left.
+    /// The packet to the home server, the request that is left, or nothing.
     pub(crate) sent: &'a [u8],
-    /// The home server's reply; nothing of a request that is left.
+    /// The home server's reply, or nothing.
     pub(crate) reply: &'a [u8],
-    /// The response; nothing of a request that is left.
+    /// The response, or nothing.
     pub(crate) response: &'a [u8],
 }
 
@@ -135,6 +149,36 @@ impl<'a> Parcel<'a> {
             response: &[],
         }
     }
+
+    /// Returns the parcel of so many that are counted of a record, at this time.
+    pub(crate) fn of_count(time: u64, key: CountKey, count: u64) -> Parcel<'static>
+        ensures counted { IsCounted result }
+        ensures parcel { IsParcelOfCount time key count result }
+    {
+        let head = ParcelHead {
+            time,
+            number: key.number,
+            lane: key.lane,
+            client: [0; 4],
+            port: 0,
+            identifier: 0,
+            authenticator: [0; 16],
+            handling: Handling {
+                sendings: None,
+                accepted: None,
+            },
+            its: ParcelKind::Count {
+                kind: key.kind,
+                count,
+            },
+        };
+        Parcel {
+            head,
+            sent: &[],
+            reply: &[],
+            response: &[],
+        }
+    }
 }
 
 fn accepted_at(time: u64, age: Option<u64>) -> Option<u64>
@@ -156,6 +200,7 @@ impl ParcelHead {
                 ..
             } => sent <= LONGEST && reply <= LONGEST && response <= LONGEST,
             ParcelKind::Left { request, .. } => request <= LONGEST,
+            ParcelKind::Count { .. } => true,
         }
     }
 
@@ -172,6 +217,7 @@ impl ParcelHead {
                 ..
             } => sent + reply + response,
             ParcelKind::Left { request, .. } => request,
+            ParcelKind::Count { .. } => 0,
         }
     }
 }

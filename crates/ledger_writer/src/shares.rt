@@ -59,11 +59,11 @@ impl ClientShares {
         self.rows.get(&address).copied()
     }
 
-    /// Counts an entry as passed: it no longer takes anything of the buffer. A request that is left counts for nobody.
+    /// Counts an entry as passed: it no longer takes anything of the buffer. What is no response counts for nobody.
     pub(crate) fn pass(&self, head: &ParcelHead, octets: usize) {
-        if let ParcelKind::Left { .. } = head.its {
+        let ParcelKind::Response { .. } = head.its else {
             return;
-        }
+        };
         if let Some(passed) = self.row(head.client).and_then(|row| self.passed.get(row)) {
             passed.octets.fetch_add(octets as u64, Ordering::SeqCst);
             passed.places.fetch_add(1, Ordering::SeqCst);

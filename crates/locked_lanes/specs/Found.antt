@@ -1,7 +1,6 @@
 -- What a call through a lock states of the lane that it found (own): a lawful one. A call for the lane of a number compares
 -- it with the lane's own number, under the same hold of the lock, and leaves another lane as it is.
 use Rattle.std.specs.Prelude.{◌≡◌, ◌≢◌, ◌⊎◌, ⊤, ℕ, List, option_map, Option, None, MatchOption, Result, Ok, Err}
-use Rattle.rad_realms.specs.Checking.{Request}
 use Rattle.rad_tables.specs.declared.slots.Slot.{Slot}
 use Rattle.rad_lane.specs.declared.accepting.Taken.{Taken}
 use Rattle.rad_lane.specs.declared.accepting.Refusal.{Refusal}
@@ -10,7 +9,6 @@ use Rattle.rad_lane.specs.declared.hearing.HearFault.TheVariants.{Unknown}
 use Rattle.rad_lane.specs.declared.stepping.Action.{Action}
 use Rattle.rad_lane.specs.Book.{Book}
 use Rattle.rad_lane.specs.Datagrams.{Datagrams}
-use Rattle.rad_lane.specs.Accepts.{IsTaken}
 use Rattle.rad_lane.specs.Steps.{Steps}
 use Rattle.rad_lane.specs.Drains.{Drains}
 use Rattle.rad_lane.specs.Dues.{NoneSpent}
@@ -25,12 +23,6 @@ use Rattle.locked_lanes.specs.Desk.{book, SameOutlet}
 use Rattle.locked_lanes.specs.Tells.{Tells}
 use Rattle.locked_lanes.specs.Spent.{TellsSpent}
 use Rattle.locked_lanes.specs.Origin.{origin_of, outstanding_under}
-
--- A lawful book to which the request does not lead: it is of another lane, or of other realms.
-pub record LeadsElsewhere (request : Request) : Type 0 where
-  pub book : Book
-  pub lawful : IsLawful book
-  pub elsewhere : ¬ IsTaken book request
 
 -- The fact holds if the result is `WrongLane`.
 abbrev pub IfWrongLane : Result Taken Refusal → Type 0 → Type 0
@@ -69,14 +61,6 @@ pub record HearsLawfully (lane moment port : ℕ) (datagram : List ℕ) (result 
 abbrev pub DrainsFor : ℕ → Book → ℕ → Book → Type 0
 DrainsFor lane old count new =
     ((old.setup.lane ≡ lane) × Drains old count new) ⊎ ((old.setup.lane ≢ lane) × (count ≡ 0) × (new ≡ old))
-
--- So it was with a lawful book, which is lawful after it.
-pub record DrainsLawfully (lane count : ℕ) : Type 0 where
-  pub old : Book
-  pub new : Book
-  pub lawful : IsLawful old
-  pub stays : IsLawful new
-  pub drains : DrainsFor lane old count new
 
 -- What is reported of the request that marks the home server down, if the book's lane has this number.
 abbrev pub TellsSpentFor : ℕ → Book → ℕ → Option Spent → Type 0

@@ -2,7 +2,6 @@
 use Rattle.std.specs.Prelude.{◌≡◌, ◌-◌, length, slice_get, option_map}
 use Rattle.rad_lane.specs.Book.{Book}
 use Rattle.rad_lane.specs.Counting.{counts_of}
-use Rattle.rad_lane.specs.Lawful.{IsLawful}
 use Rattle.locked_lanes.specs.declared.standing.Standing.{Standing}
 
 -- The counts, and the moments of the first request of the queue, of the first request of the book and of the last
@@ -14,9 +13,3 @@ standing_of book = record {
   first_held = option_map (λ s. s.moment) (slice_get book.accepted 0);
   last_answered = option_map (λ a. a.moment) (slice_get book.answered (length book.answered - 1));
 }
-
--- What is returned through a lock: the standing of a lane whose book is lawful.
-pub record StandsLawfully (standing : Standing) : Type 0 where
-  pub book : Book
-  pub lawful : IsLawful book
-  pub stands : standing ≡ standing_of book

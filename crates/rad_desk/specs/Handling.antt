@@ -1,6 +1,6 @@
 -- What a checked datagram of a NAS leads to (RFC 2866 section 2.1, Proxy). A request is passed to the lane of its
 -- realm. A Status-Server (RFC 5997 section 3) is answered in place. The state of the lane is behind its lock.
-use Rattle.std.specs.Prelude.{◌≡◌, ◌≤◌, ◌⊎◌, ℕ, List, [], Result, Ok, Err}
+use Rattle.std.specs.Prelude.{◌≡◌, ◌≤◌, ℕ, List, [], Result, Ok, Err}
 use Rattle.rad_packet.specs.Packet.{identifier_of, authenticator_of}
 use Rattle.rad_auth.specs.Authenticator.{accounting_response}
 use Rattle.rad_realms.specs.Checking.{Request, Status}
@@ -11,20 +11,17 @@ use Rattle.rad_lane.specs.declared.accepting.Refusal.{Refusal}
 use Rattle.rad_lane.specs.declared.accepting.Refusal.TheVariants.{WrongLane}
 use Rattle.rad_lane.specs.Datagrams.{Datagrams}
 use Rattle.locked_lanes.specs.Departures.{Returns, AcceptsLawfully, UnlessWrongLane}
-use Rattle.locked_lanes.specs.Found.{LeadsElsewhere, IfWrongLane}
 use Rattle.rad_desk.specs.declared.handling.Handled.{Handled}
 use Rattle.rad_desk.specs.declared.handling.Handling.{Handling}
 use Rattle.rad_desk.specs.declared.handling.Handled.TheVariants.{Taken, Answered}
 
 -- The datagram is a request, and this is the outcome at its lane. If the lane's number is not below `lanes`, it is
--- `WrongLane`; else that is the outcome only at a lawful book to which the request does not lead. Any other outcome is that
--- of a lawful book to which the request leads, at this moment. Only for a repeat of an answered request is something written:
--- the response.
+-- `WrongLane`. An outcome other than that is the one of a lawful book to which the request leads, at this moment. Only for a
+-- repeat of an answered request is something written: the response.
 pub record IsGivenOn (asked : Incoming) (moment lanes : ℕ) (outcome : Result Acceptance Refusal) (d : Datagrams) : Type 0 where
   pub request : Request
   pub is : asked ≡ incoming.Request request
   pub nowhere : lanes ≤ request.lane → outcome ≡ Err WrongLane
-  pub wrong : IfWrongLane outcome ((lanes ≤ request.lane) ⊎ LeadsElsewhere request)
   pub returns : Returns outcome d
   pub accepts : UnlessWrongLane outcome (AcceptsLawfully request moment outcome d)
 

@@ -8,7 +8,7 @@ use Rattle.rad_desk.specs.declared.gate.WorkerReport.TheVariants as report
 -- The note of a report: its event, without the datagram and the peer. A report of anything else has none.
 abbrev pub note_of : WorkerReport → Option Note
 note_of report.ReceiveFault = Some note.ReceiveFault
-note_of (report.SendFault to) = Some note.SendFault
+note_of (report.SendFault to octets) = Some note.SendFault
 note_of (report.Dropped reason from octets) = Some (note.Dropped reason)
 note_of (report.Refused reason from octets) = Some (note.Refused reason)
 note_of (report.Took lane serial number client sent) = Some (note.Took lane serial)

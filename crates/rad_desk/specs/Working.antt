@@ -1,6 +1,6 @@
 -- What the worker of a lane does, as its wire sees it (RFC 2866 section 2.1, own). It is a sequence of parts. In each part a
 -- datagram is received, which the lane hears or does not hear, or the lane does one step, and what that gives is sent.
-use Rattle.std.specs.Prelude.{◌≡◌, ◌≢◌, ◌<◌, ⊤, ℕ, List, [], ◌∷◌, ◌++◌, ◌⊎◌, Bool, true, false, All, slice_get, Option, Some, None, MatchOption, Result}
+use Rattle.std.specs.Prelude.{◌≡◌, ◌≢◌, ◌<◌, ◌≤◌, ◌*◌, ⊤, ℕ, List, [], ◌∷◌, ◌++◌, ◌⊎◌, Bool, true, false, All, slice_get, Option, Some, None, MatchOption, Result}
 use Rattle.std.specs.List.{flat_map}
 use Rattle.rad_config.specs.declared.reading.address.Endpoint.{Endpoint}
 use Rattle.rad_realms.specs.Configuration.{HomeEntry, Configuration}
@@ -10,6 +10,7 @@ use Rattle.rad_lane.specs.declared.stepping.Action.TheVariants.{Sent, Resent, Pr
 use Rattle.rad_desk.specs.declared.wire.Delivery.{Delivery}
 use Rattle.locked_lanes.specs.declared.hearing.Told.{Told}
 use Rattle.locked_lanes.specs.declared.hearing.DeskFault.{DeskFault}
+use Rattle.locked_lanes.specs.declared.proxy.Stepped.{Stepped}
 use Rattle.locked_lanes.specs.Departures.{StepsFor}
 use Rattle.locked_lanes.specs.Found.{HearsLawfully}
 use Rattle.rad_desk.specs.Traffic.{Event, arrived, departed, told, drew}
@@ -37,6 +38,18 @@ pub record IsGiven (lane : ℕ) (home : HomeEntry) (moment : ℕ) (random : List
   pub from_port : IsPortOf action port
   pub before : List ℕ
   pub steps : StepsFor lane home moment random action (record { before = before; after = octets })
+
+-- The lane was idle, and its book then held at least half of the requests that it may hold.
+abbrev pub IsIdle : Action → Type 0
+IsIdle (Sent number slot) = ⊥
+IsIdle (Resent number slot) = ⊥
+IsIdle (Probed slot) = ⊥
+IsIdle WentDown = ⊥
+IsIdle WentUp = ⊥
+IsIdle (Idle moment) = ⊤
+
+abbrev pub IsToBeCut : HomeEntry → Stepped → Type 0
+IsToBeCut home stepped = IsIdle stepped.action × (home.limits.book ≤ 2 * stepped.held)
 
 -- The octets were given to the socket of this source port, to be sent to the home server's address and port. Only if the
 -- home server does not have that port, nothing passed.

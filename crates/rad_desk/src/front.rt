@@ -259,9 +259,9 @@ fn answer<R, W: Wire, L: Ledger, G: Gate>(
                 octets,
             });
             if fits(incoming, datagram) {
-                ledger.send_again(lane, number);
-                let delivery = shift.send(socket, from, datagram.bytes());
-                tell_fault(ledger, delivery, lane, number);
+                let response = datagram.bytes();
+                ledger.send_again(lane, number, response);
+                shift.send(socket, from, response);
             }
         }
         Ok(Handled::Answered) => {
@@ -272,15 +272,6 @@ fn answer<R, W: Wire, L: Ledger, G: Gate>(
             from,
             octets,
         }),
-    }
-}
-
-/// Tells the ledger that a response could not be sent, if it could not.
-fn tell_fault<L: Ledger>(ledger: &mut L, delivery: Delivery, lane: u16, number: u64)
-    ensures { L.kept ledger.new ≡ L.kept ledger.old }
-{
-    if delivery == Delivery::Fault {
-        ledger.lose(lane, number);
     }
 }
 
@@ -341,20 +332,20 @@ fn take<R, W: Wire, L: Ledger, G: Gate>(
     let Some(outgoing) = taken else {
         return;
     };
+    let client = outgoing.client;
     let to = Endpoint {
-        address: outgoing.client,
+        address: client,
         port: outgoing.port,
     };
     let lane = inlet.lane();
     let number = outgoing.reply.mark().number;
     ledger.keep(&outgoing, &*shift.wire);
-    let delivery = shift.send(LISTEN, to, outgoing.reply.response());
-    tell_fault(ledger, delivery, lane, number);
+    shift.send(LISTEN, to, outgoing.reply.response());
     shift.report(&WorkerReport::Took {
         lane,
         serial: outgoing.serial,
         number,
-        client: to,
+        client,
         sent: outgoing.reply.sending(),
     });
 }

@@ -110,6 +110,7 @@ pub enum WorkerReport<'a> {
     /// A datagram to this address and port could not be sent. It is lost.
     SendFault {
         to: Endpoint,
+        octets: &'a [u8],
     },
     /// The front dropped a datagram that came from this address and port, for this reason.
     Dropped {
@@ -153,12 +154,12 @@ pub enum WorkerReport<'a> {
         octets: &'a [u8],
     },
     /// The response of this lane and serial was taken from the lane's ring, and its datagram was handed to the wire. It
-    /// answers this client's request of this number, which was sent to the home server as this packet.
+    /// answers the request of this number of the client with this address, which was sent to the home server as this packet.
     Took {
         lane: u16,
         serial: u64,
         number: u64,
-        client: Endpoint,
+        client: [u8; 4],
         sent: &'a [u8],
     },
     /// A datagram to a lane's worker was dropped, since its home server did not send it.

@@ -1,9 +1,9 @@
 //! The worker of a home server.
 
 ghost use Rattle.std.specs.Prelude.{◌≡◌, ◌<◌, ◌≤◌, ◌*◌, ◌↔◌, IsTrue, None, MatchOption};
-ghost use Rattle.rad_desk.specs.Calls.{Passes, IsALook, AreAtMost};
+ghost use Rattle.rad_desk.specs.Calls.{Passes, IsALook, IsAReading, AreAtMost};
 ghost use Rattle.rad_desk.specs.Keeping.{Keeps};
-ghost use Rattle.rad_desk.specs.Working.{WorksForHome, OncePassed, ReceivesOnce, IsStep, IsSentHome, slot_of, IsPortOf};
+ghost use Rattle.rad_desk.specs.Working.{WorksForHome, OncePassed, ReceivesOnce, IsStep, IsSentHome, IsToBeCut, slot_of, IsPortOf};
 
 use crate::gate::{Asked, Call, Gate, UpReason, Worker, WorkerReport};
 use crate::shift::{Arrival, Buffers, Shift};
@@ -253,6 +253,7 @@ fn follow<R: Wait, W: Wire, G: Gate>(
 ) -> bool
     requires { lane < shift.old.proxy.now }
     ensures looks { Passes IsALook (W.log shift.old.wire.now) (W.log shift.new.wire.now) }
+    ensures cuts { IsToBeCut home.now stepped.now → IsTrue result → Passes IsAReading (W.log shift.old.wire.now) (W.log shift.new.wire.now) }
     ensures keeps { Keeps shift.old shift.new }
 {
     match stepped.action {
@@ -298,6 +299,7 @@ fn is_half_full(held: u64, book: u32) -> bool
 fn cut<R: Wait, W: Wire, G: Gate>(shift: &mut Shift<'_, R, W, G>, lane: u16) -> bool
     requires { lane < shift.old.proxy.now }
     ensures looks { Passes IsALook (W.log shift.old.wire.now) (W.log shift.new.wire.now) }
+    ensures reads { IsTrue result → Passes IsAReading (W.log shift.old.wire.now) (W.log shift.new.wire.now) }
     ensures keeps { Keeps shift.old shift.new }
 {
     if !shift.may(Call::Turn) {

@@ -31,16 +31,10 @@ pub trait Ledger {
     fn keep<W: Wire>(&mut self, outgoing: &Outgoing, wire: &W)
         ensures { kept self.new ≡ kept_with (kept self.old) (handed_at (W.log wire.now) outgoing.now ∷ []) };
 
-    /// The response of this lane to the request of this number is sent again, to a client that repeated the request. It
-    /// must not wait for anything.
-    fn send_again(&mut self, _lane: u16, _number: u64)
-        ensures { kept self.new ≡ kept self.old }
-    {}
-
-    /// The response of this lane to the request of this number could not be sent. It must not wait for anything.
-    fn lose(&mut self, _lane: u16, _number: u64)
-        ensures { kept self.new ≡ kept self.old }
-    {}
+    /// The response of this lane to the request of this number is about to be sent again, to a client that repeated the
+    /// request. It must not wait for anything.
+    fn send_again(&mut self, lane: u16, number: u64, response: &[u8])
+        ensures { kept self.new ≡ kept self.old };
 
     /// Keeps a request that is left, which it is lent. No response comes any more, so it may wait.
     fn leave(&mut self, told: &LeftRecord<'_>)
@@ -64,6 +58,8 @@ pub struct NoLedger;
 impl Ledger for NoLedger {
     fn keep<W: Wire>(&mut self, _outgoing: &Outgoing, _wire: &W) {}
 
+    fn send_again(&mut self, _lane: u16, _number: u64, _response: &[u8]) {}
+
     fn leave(&mut self, _told: &LeftRecord<'_>) {}
 }
 
@@ -85,15 +81,9 @@ impl<L: Ledger> Ledger for Option<L> {
         }
     }
 
-    fn send_again(&mut self, lane: u16, number: u64) {
+    fn send_again(&mut self, lane: u16, number: u64, response: &[u8]) {
         if let Some(ledger) = self {
-            ledger.send_again(lane, number);
-        }
-    }
-
-    fn lose(&mut self, lane: u16, number: u64) {
-        if let Some(ledger) = self {
-            ledger.lose(lane, number);
+            ledger.send_again(lane, number, response);
         }
     }
 

@@ -156,7 +156,7 @@ impl<'a, R, W: Wire, G: Gate> Shift<'a, R, W, G> {
             Delivery::Sent => self.tally.sent = self.tally.sent.saturating_add(1),
             Delivery::Fault => {
                 self.tally.faults = self.tally.faults.saturating_add(1);
-                self.report(&WorkerReport::SendFault { to });
+                self.report(&WorkerReport::SendFault { to, octets });
             }
         }
         delivery

@@ -31,7 +31,7 @@ sent_event (Some metric) = Some (plain metric)
 -- The event as which a report is counted for a worker.
 abbrev pub event_of : WorkerReport → Option CountedEvent
 event_of (report.Sends to octets origin) = sent_event (sent_metric (slice_get octets.now 0))
-event_of (report.SendFault to) = Some (plain SendFaults)
+event_of (report.SendFault to octets) = Some (plain SendFaults)
 event_of report.ReceiveFault = Some (plain ReceiveFaults)
 event_of (report.Dropped why from octets) = Some (event Dropped (reason.Dropped why))
 event_of (report.Refused why from octets) = Some (event Refused (reason.Refused why))
@@ -65,7 +65,7 @@ peer_of (report.Repeated repeat from octets) = Some from
 peer_of (report.Refused why from octets) = Some from
 peer_of (report.NotHome from octets) = Some from
 peer_of (report.Sends to octets origin) = Some to
-peer_of (report.SendFault to) = Some to
+peer_of (report.SendFault to octets) = Some to
 peer_of r = None
 
 -- The row of a worker: the front's is the first, and the lanes' follow in order.

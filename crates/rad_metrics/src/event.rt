@@ -117,7 +117,7 @@ fn peer_of_report(report: &Report<'_>) -> Option<Endpoint>
         | Report::Repeated { from, .. }
         | Report::Refused { from, .. }
         | Report::NotHome { from, .. } => Some(from),
-        Report::Sends { to, .. } | Report::SendFault { to } => Some(to),
+        Report::Sends { to, .. } | Report::SendFault { to, .. } => Some(to),
         _ => None,
     }
 }

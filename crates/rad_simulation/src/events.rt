@@ -90,7 +90,7 @@ impl Sign {
             WorkerReport::Received { from, .. } => Sign::Received(from),
             WorkerReport::ReceiveFault => Sign::ReceiveFault,
             WorkerReport::Sends { to, .. } => Sign::Sends(to),
-            WorkerReport::SendFault { to } => Sign::SendFault(to),
+            WorkerReport::SendFault { to, .. } => Sign::SendFault(to),
             WorkerReport::Dropped { reason, from, .. } => Sign::Dropped(reason, from),
             WorkerReport::Marked { lane, from, marks } => Sign::Marked(lane, from, marks),
             WorkerReport::Accepted {

@@ -172,7 +172,7 @@ impl<L: Log> EventLog<'_, L> {
                     &format_args!("event=receive-fault worker={name}"),
                 );
             }
-            WorkerReport::SendFault { to } => {
+            WorkerReport::SendFault { to, .. } => {
                 let to = PeerText(to);
                 self.tell(
                     Level::Debug,

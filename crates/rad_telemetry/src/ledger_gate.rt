@@ -13,8 +13,8 @@ use std::io::Error;
 use std::sync::Wait;
 use std::time::Clock;
 
-/// Counts and logs what the workers do, and tells the ledger, if there is one, when each request is accepted and each time
-/// that it is sent.
+/// Counts and logs what the workers do, and tells the ledger, if there is one, when each request is accepted, each time that
+/// it is sent, and which responses could not be sent.
 #[derive(Drop)]
 pub struct LedgerGate<'a, L, R> {
     pub(crate) rt: &'a R,
@@ -69,7 +69,7 @@ impl<L: Log, R: Wait> SocketReports for LedgerGate<'_, L, R> {
     }
 }
 
-/// Tells a ledger what a worker reports of the handling of a request, if the report is of that.
+/// Tells a ledger what a worker reports of the handling of a request or of a response, if the report is of that.
 fn tell<R: Clock>(rt: &R, ledger: &LedgerState, worker: Worker, report: &WorkerReport<'_>) {
     match (worker, report) {
         (_, WorkerReport::Accepted { lane, number, .. }) => {
@@ -83,6 +83,7 @@ fn tell<R: Clock>(rt: &R, ledger: &LedgerState, worker: Worker, report: &WorkerR
         (Worker::Lane(lane), WorkerReport::SentAgain { number }) => {
             ledger.send_again(lane, *number);
         }
+        (Worker::Front, WorkerReport::SendFault { octets, .. }) => ledger.lose_response(octets),
         _ => {}
     }
 }

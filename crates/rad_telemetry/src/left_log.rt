@@ -46,6 +46,10 @@ impl<L: Log + WaitForRoom, R: Clock + Wait, K: Ledger + Drop> Ledger for LeftLog
         self.ledger.keep(outgoing, wire);
     }
 
+    fn send_again(&mut self, lane: u16, number: u64, response: &[u8]) {
+        self.ledger.send_again(lane, number, response);
+    }
+
     fn leave(&mut self, told: &LeftRecord<'_>) {
         if self.count < MOST_LOGGED {
             self.events.wait_for_room(self.rt);

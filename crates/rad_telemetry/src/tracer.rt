@@ -8,7 +8,6 @@ use rad_desk::{Origin, Session, Worker, WorkerReport, user_of};
 use rad_lane::session_of;
 use rad_log::{Level, Log, lock_soon, read_soon, tell};
 use rad_packet::read;
-use rad_realms::Endpoint;
 use std::alloc::Global;
 use std::mem;
 use std::sync::atomic::{AtomicBool, AtomicU64, Ordering};
@@ -175,15 +174,17 @@ fn place_of(wanted: &[Wanted], subject: &Subject<'_>) -> Option<usize> {
 fn subject_of<'a>(worker: Worker, report: &WorkerReport<'a>) -> Option<Subject<'a>> {
     match *report {
         WorkerReport::Received { from, octets } if worker == Worker::Front => {
-            Some(subject_of_packet(from, octets))
+            Some(subject_of_packet(from.address, octets))
         }
         WorkerReport::Dropped { from, octets, .. }
         | WorkerReport::Accepted { from, octets, .. }
         | WorkerReport::Repeated { from, octets, .. }
-        | WorkerReport::Refused { from, octets, .. } => Some(subject_of_packet(from, octets)),
+        | WorkerReport::Refused { from, octets, .. } => {
+            Some(subject_of_packet(from.address, octets))
+        }
         WorkerReport::Took { client, sent, .. } => Some(subject_of_packet(client, sent)),
-        WorkerReport::Sends { to, .. } | WorkerReport::SendFault { to }
-            if worker == Worker::Front => Some(subject_of_client(to)),
+        WorkerReport::Sends { to, .. } | WorkerReport::SendFault { to, .. }
+            if worker == Worker::Front => Some(subject_of_client(to.address)),
         WorkerReport::Sends {
             origin: Some(origin),
             ..
@@ -201,11 +202,10 @@ fn subject_of<'a>(worker: Worker, report: &WorkerReport<'a>) -> Option<Subject<'
 }
 
 /// Returns the subject of a datagram of a client, which has a user and a session if it is a packet that has them.
-pub(crate) fn subject_of_packet(client: Endpoint, octets: &[u8]) -> Subject<'_> {
-    let Endpoint { address, .. } = client;
+pub(crate) fn subject_of_packet(client: [u8; 4], octets: &[u8]) -> Subject<'_> {
     match read(octets) {
         Ok(packet) => Subject {
-            client: address,
+            client,
             user: user_of(&packet),
             session: session_of(&packet),
         },
@@ -213,10 +213,9 @@ pub(crate) fn subject_of_packet(client: Endpoint, octets: &[u8]) -> Subject<'_> 
     }
 }
 
-fn subject_of_client<'a>(client: Endpoint) -> Subject<'a> {
-    let Endpoint { address, .. } = client;
+fn subject_of_client<'a>(client: [u8; 4]) -> Subject<'a> {
     Subject {
-        client: address,
+        client,
         user: None,
         session: None,
     }

@@ -1,6 +1,7 @@
 pub mod AppendLemmas
 pub mod BatchLemmas
 pub mod CallLemmas
+pub mod CountLemmas
 pub mod CrashLemmas
 pub mod EntryLemmas
 pub mod FieldLemmas

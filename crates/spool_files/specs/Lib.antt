@@ -1,9 +1,12 @@
 pub mod Batches
 pub mod Calls
 pub mod CheckSums
+pub mod Counting
 pub mod Devices
 pub mod Entries
 pub mod Logged
 pub mod Places
+pub mod Reading
 pub mod Segments
+pub mod Settled
 pub mod internal

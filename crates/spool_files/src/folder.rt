@@ -141,7 +141,8 @@ where
 ///
 /// # Errors
 ///
-/// If the system refuses it.
+/// If the system refuses it. Then a crash may bring the file back, so no newer segment should be removed any more: its answers
+/// may close what stands in this one.
 pub fn remove_segment<R: Files>(
     rt: &R,
     alloc: Global,

@@ -11,6 +11,7 @@
 mod batches;
 mod call_log;
 mod check_sum;
+mod counting;
 mod device;
 mod entries;
 mod entry;
@@ -20,11 +21,16 @@ mod heads;
 mod laws;
 mod logged_file;
 mod places;
+mod reading;
 mod segment;
 
 pub use batches::{FoundBatches, is_sound, read_batches};
 pub use call_log::CallLog;
 pub use check_sum::crc32_of;
+pub use counting::{
+    Counted, OpenRequest, RememberedAnswer, is_to_write_again, sort_by_arrival,
+    what_is_open_in_parts, what_is_written_once_more,
+};
 pub use device::{Device, DeviceFault, Step};
 pub use entries::{ReadError, put_entry, read_entries};
 pub use entry::{Answered, Begun, Came, GivenUp, Head, LocalAddress};
@@ -34,6 +40,10 @@ pub use folder::{
 pub use laws::what_is_read_is_one;
 pub use logged_file::{FileCalls, LoggedFile};
 pub use places::{Places, an_entry_closes_its_request, removal_changes_no_other};
+pub use reading::{
+    BatchError, Fault, FaultKind, SegmentEntered, SegmentRead, SpoolRead, VERSION, count_segment,
+    enter_segment, fault_of_beginning, read_batch, read_segment, read_spool,
+};
 pub use segment::{AppendError, MOST_OCTETS, Segment, begin, recover};
 
 #[cfg(test)]

@@ -485,3 +485,5 @@ fn the_last_entry_counts(rt: HostRuntime) -> Result<(), AllocError> {
     assert!(rt; is_closed && is_over && is_open && is_forgotten);
     Ok(())
 }
+
+mod trials;

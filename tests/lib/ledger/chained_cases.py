@@ -404,6 +404,11 @@ def runs_before():
         tied = chained([changed(others[0], before=by_name), *others[1:]])
         lacks = [missing.replace("-000000", f"-{file:06}")] if file else []
         yield f"a-run-tied-by-{form}-alone", {"a": text(lines), "b": text(tied)}, [*whole, *its, *lacks], 10 if file else 0, *every
+    for count in (2, 3, 4):
+        files = {f"a{place}": text(file) for place, file in enumerate(in_files(*[1] * count))}
+        tied = chained([changed(others[0], before={"name": name.replace("-000000", f"-{count - 1:06}")}), *others[1:]])
+        yield f"a-run-tied-by-the-last-of-{count}-files-alone", files | {"b": text(tied)}, [
+            counted(0, "h1", 0, count, "whole"), fates(count, count, 0), *its], 0, *every
     yield "a-run-tied-to-one-without-sums", {"a": text(bare(lines)), "b": text(named(others, bare(lines)))}, [
         whole[0].replace("whole", "part"), whole[1], *its], 7, *every
     for form, odd in {"of-no-ledger": "notes.jsonl", "without-a-number": f"{NAME:016x}.jsonl",

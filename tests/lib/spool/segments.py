@@ -3,6 +3,7 @@ import struct
 import zlib
 from dataclasses import dataclass
 
+VERSION = 1
 TEXT = struct.Struct(">H")
 FRAME = struct.Struct(">II")
 # Each kind of an entry: its name, its fields behind the kind, and how many octets its text has at least and at most.
@@ -16,9 +17,10 @@ KINDS = {
 
 @dataclass
 class Batch:
-    """A batch: where its gate is, whether its CRC-32 is right, and its entries, or none if they can't be read."""
+    """A batch: where its gate is and where it ends, whether its CRC-32 is right, and its entries, or none if they can't be read."""
 
     offset: int
+    end: int
     sound: bool
     entries: list | None
 
@@ -57,8 +59,57 @@ def read(file):
         body = file[at + 1 + FRAME.size :][:length]
         if len(body) < length:
             return
-        yield Batch(at, zlib.crc32(body) == check, entries_of(body))
-        at += 1 + FRAME.size + length
+        end = at + 1 + FRAME.size + length
+        yield Batch(at, end, zlib.crc32(body) == check, entries_of(body))
+        at = end
+
+
+@dataclass
+class Spool:
+    """What segments stand for: the requests that are open, by arrival, the answers that are remembered, and what is wrong."""
+
+    requests: list
+    answers: list
+    faults: list
+
+
+def fault_of_first(entries, number):
+    """What is wrong with the first batch of a segment."""
+    name, fields, _ = entries[0] if entries else (None, None, None)
+    if name == "begun" and fields[0] > VERSION:
+        return "later version"
+    return None if name == "begun" and fields[0] == VERSION and fields[2] == number else "no beginning"
+
+
+def segment_of(number, file):
+    """The entries of a segment that count, and what is wrong with it, each by its segment, offset and name."""
+    entries, faults, end = [], [], 0
+    for batch in read(file):
+        wrong = "not entries" if batch.entries is None else fault_of_first(batch.entries, number) if batch.offset == 0 else None
+        wrong = wrong if batch.sound else "wrong sum"
+        faults += [(number, batch.offset, wrong)] if wrong else []
+        if wrong == "later version":
+            return [], faults
+        entries += batch.entries if wrong in (None, "no beginning") else []
+        end = batch.end
+    return entries, faults + ([(number, end, "cut short")] if file[end : end + 1] == b"\1" else [])
+
+
+def spool_of(segments, now, span):
+    """What segments, each a number and its file's octets, the oldest first, stand for: the last entry about each request counts."""
+    entries, faults = [], []
+    for number, file in segments:
+        more, wrong = segment_of(number, file)
+        entries, faults = entries + more, faults + wrong
+    last = {fields[:4]: place for place, (name, fields, _) in enumerate(entries) if name != "begun"}
+    counting = [entries[place] for place in sorted(last.values())]
+    requests = sorted((entry for entry in counting if entry[0] == "came"), key=lambda entry: entry[1][6])
+    return Spool(requests, [entry for entry in counting if entry[0] == "answered" and now - entry[1][7] <= span], faults)
+
+
+def in_folder(folder):
+    """The segments of a folder, the oldest first."""
+    return [(int(file.stem, 16), file.read_bytes()) for file in sorted(folder.glob("*.spool"))]
 
 
 # The entries of the segment that the tests of the crate `spool_files` write and read.

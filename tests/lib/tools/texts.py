@@ -18,6 +18,17 @@ F = "client a {\n ipaddr = 192.0.2.1\n secret = abc\n}\nhome_server h {\n type =
 F_POOL = "home_server_pool p {\n home_server = h\n}\n"
 F_REALM = "realm example.org {\n nostrip\n acct_pool = p\n}\n"
 F_ALL = F + F_POOL + F_REALM
+# A server whose listener is not at the port of accounting.
+F_OF_ANOTHER_PORT = """server a {
+ listen {
+  type = acct
+  port = 11813
+ }
+ preacct {
+  suffix
+ }
+}
+"""
 
 
 def block(head, *lines):
@@ -80,7 +91,7 @@ def radsecproxy():
     yield "the catch-all behind what is not carried over", (
         R + block("realm a") + block("realm /@x/", "accountingServer h") + R_REALM + block("realm b", "accountingServer i")
         + block("realm Example.org", "accountingServer h") + block("realm *", "accountingServer h", "accountingServer h")), (
-            [(12, "a pattern"), (19, "no server i before it"), (21, "has this name"), (24, "of an empty realm"),
+            [(12, "a pattern"), (15, "of a name with an `@`"), (19, "no server i before it"), (21, "has this name"), (24, "of an empty realm"),
              (24, "not carried over too (3, the first realm a of"), (26, "h is another one")]), WHOLE | BOTH
     yield "the catch-all behind realms that are carried over, twice", (
         R + R_REALM + block("realm EXAMPLE.org", "accountingServer h") + block("realm *", "accountingServer h")), (
@@ -271,17 +282,50 @@ def freeradius():
   secret = x
  }
 }
-""", [(17, "does not run suffix"), (21, "one address and port"), (28, "IPv6")], clients(("10.0.0.1", "x")) | {"listen": "0.0.0.0:1813"}
-    yield "the listener at the port of accounting, and files of records", F_ALL + """server a {
+""", [(1, "clients of its own"), (17, "does not run suffix"), (21, "one address and port"), (28, "IPv6")], (
+        WHOLE | {"client": [("10.0.0.1", "x")], "listen": "0.0.0.0:1813"})
+    yield "a list of clients that the listener names", F_ALL + """clients x {
+ client b {
+  ipaddr = 10.0.0.1
+  secret = x
+ }
+}
+clients y {
+ client c {
+  ipaddr = 10.0.0.2
+  secret = x
+ }
+}
+server s {
  listen {
   type = acct
-  port = 11813
+  clients = x
+ }
+ client d {
+  ipaddr = 10.0.0.3
+  secret = x
  }
  preacct {
   suffix
  }
 }
-server b {
+""", [(1, "clients of its own"), (23, "one list of clients"), (34, "no listener for accounting")], WHOLE | {"client": [("10.0.0.1", "x")]}
+    yield "clients of two servers, of which one has no list", F_ALL + F_OF_ANOTHER_PORT + """server b {
+ listen {
+  type = acct
+  port = 1813
+ }
+ client b {
+  ipaddr = 192.0.2.1
+  secret = own
+ }
+ preacct {
+  suffix
+ }
+}
+""", [(1, "192.0.2.1 is the client of"), (18, "one address and port")], (
+        WHOLE | {"client": [("192.0.2.1", "own")], "listen": "0.0.0.0:1813"})
+    yield "the listener at the port of accounting, and files of records", F_ALL + F_OF_ANOTHER_PORT + """server b {
  listen {
   type = acct
   port = 1813

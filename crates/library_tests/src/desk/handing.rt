@@ -89,6 +89,8 @@ impl Ledger for ListedLedger<'_> {
         self.calls.compare(Made::Kept(outgoing.serial));
     }
 
+    fn send_again(&mut self, _lane: u16, _number: u64, _response: &[u8]) {}
+
     fn leave(&mut self, _told: &LeftRecord<'_>) {}
 }
 

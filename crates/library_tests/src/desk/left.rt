@@ -45,6 +45,10 @@ impl Ledger for Comparer {
         self.is_right = false;
     }
 
+    fn send_again(&mut self, _lane: u16, _number: u64, _response: &[u8]) {
+        self.is_right = false;
+    }
+
     fn leave(&mut self, told: &LeftRecord<'_>) {
         self.is_right = self.is_right && self.lanes == 0 && is_next(told, self.told);
         self.told = self.told.saturating_add(1);

@@ -28,10 +28,13 @@ impl<G> Clone for Reports<'_, G> {
 impl<G> Copy for Reports<'_, G> {}
 
 impl<G: Gate> Reports<'_, G> {
-    /// Reports that a datagram to this address and port is lost.
-    fn lost(&self, to: Endpoint) {
-        self.gate
-            .report(self.worker, &WorkerReport::SendFault { to });
+    /// Reports that a datagram is lost.
+    fn lost(&self, sent: Sent<'_>) {
+        let report = WorkerReport::SendFault {
+            to: sent.to,
+            octets: sent.octets,
+        };
+        self.gate.report(self.worker, &report);
     }
 }
 
@@ -141,7 +144,7 @@ impl<'a, G: Gate> Departures<'a, G> {
         for waiting in self.outbox.waiting() {
             let sent = waiting.sent();
             if hand(sockets, &mut self.kept, self.reports, sent) == Delivery::Fault {
-                self.reports.lost(sent.to);
+                self.reports.lost(sent);
             }
         }
         self.outbox.clear();
@@ -174,7 +177,7 @@ impl<'a, G: Gate> Departures<'a, G> {
 fn lose_old<G: Gate>(kept: &mut Kept, moment: u64, reports: Reports<'_, G>) {
     for _ in 0..kept.tries() {
         match kept.lose_old(moment) {
-            Some(to) => reports.lost(to),
+            Some(lost) => reports.lost(lost.sent()),
             None => return,
         }
     }
@@ -207,8 +210,8 @@ fn hand<G: Gate>(
 fn keep<G: Gate>(kept: &mut Kept, reports: Reports<'_, G>, sent: Sent<'_>) -> Delivery {
     match kept.keep(sent) {
         Ok(None) => Delivery::Sent,
-        Ok(Some(to)) => {
-            reports.lost(to);
+        Ok(Some(lost)) => {
+            reports.lost(lost.sent());
             Delivery::Sent
         }
         Err(_) => Delivery::Fault,
@@ -241,8 +244,8 @@ fn try_first<G: Gate>(
     }
     let gone = kept.take(place);
     if handed == Handed::Refused {
-        if let Some(to) = gone {
-            reports.lost(to);
+        if let Some(lost) = gone {
+            reports.lost(lost.sent());
         }
     }
 }

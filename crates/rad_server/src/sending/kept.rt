@@ -3,7 +3,6 @@
 use super::client_queue::ClientQueue;
 use super::outbox::{Sent, Waiting};
 use crate::sockets::{ReadySocket, is_full};
-use rad_realms::Endpoint;
 use std::alloc::{AllocError, Global};
 
 /// The most datagrams that are kept in all.
@@ -47,21 +46,21 @@ impl Kept {
         self.queues.iter().position(|queue| queue.is_of(client))
     }
 
-    /// Keeps a datagram behind those of its client, and returns where the one was to go that is lost by that, if one is:
-    /// the client's oldest if its queue is full, and the oldest of the client with the most if there are too many in all.
+    /// Keeps a datagram behind those of its client, and returns the one that is lost by that, if one is: the client's oldest
+    /// if its queue is full, and the oldest of the client with the most if there are too many in all.
     ///
     /// # Errors
     ///
     /// `AllocError` if memory is refused. The datagram is not kept.
-    pub(crate) fn keep(&mut self, sent: Sent<'_>) -> Result<Option<Endpoint>, AllocError> {
+    pub(crate) fn keep(&mut self, sent: Sent<'_>) -> Result<Option<Waiting>, AllocError> {
         let datagram = Waiting::copy_of(self.alloc, sent)?;
         let client = sent.to.address;
         let lost = match self.place_of(client) {
             Some(place) => self.put(place, datagram)?,
             None => self.add(client, datagram)?,
         };
-        if let Some(lost) = lost {
-            return Ok(Some(lost.sent().to));
+        if lost.is_some() {
+            return Ok(lost);
         }
         self.count = self.count.saturating_add(1);
         if self.count <= MOST {
@@ -84,9 +83,9 @@ impl Kept {
         Ok(lost)
     }
 
-    /// Loses the oldest datagram of the client for which the most are kept, which is this one if no other has more, and
-    /// returns where it was to go.
-    fn lose_of_most(&mut self, client: [u8; 4]) -> Option<Endpoint> {
+    /// Takes the oldest datagram of the client for which the most are kept, which is this one if no other has more. It is
+    /// lost.
+    fn lose_of_most(&mut self, client: [u8; 4]) -> Option<Waiting> {
         let mut most = (self.place_of(client)?, 0);
         if let Some(queue) = self.queues.get(most.0) {
             most.1 = queue.len();
@@ -99,8 +98,8 @@ impl Kept {
         self.take(most.0)
     }
 
-    /// Loses a datagram that was sent too long before `now`, and returns where it was to go.
-    pub(crate) fn lose_old(&mut self, now: u64) -> Option<Endpoint> {
+    /// Takes a datagram that was sent too long before `now`. It is lost.
+    pub(crate) fn lose_old(&mut self, now: u64) -> Option<Waiting> {
         let place = self.place_of_old(now)?;
         self.take(place)
     }
@@ -110,16 +109,15 @@ impl Kept {
         self.queues.iter().position(|queue| is_old(queue, now))
     }
 
-    /// Takes the oldest datagram of the queue at a place, and returns where it goes. A queue that is empty then is
-    /// removed.
-    pub(crate) fn take(&mut self, place: usize) -> Option<Endpoint> {
+    /// Takes the oldest datagram of the queue at a place. A queue that is empty then is removed.
+    pub(crate) fn take(&mut self, place: usize) -> Option<Waiting> {
         let queue = self.queues.get_mut(place)?;
         let datagram = queue.take();
         if queue.len() == 0 {
             self.queues.remove(place);
         }
         self.count = self.count.saturating_sub(1);
-        Some(datagram?.sent().to)
+        datagram
     }
 
     /// Returns the oldest datagram of the queue at a place.

@@ -1,4 +1,4 @@
-use Rattle.ledger_lines.proofs.Sums.{begin_line, end_line, entry_line, left_line}
+use Rattle.ledger_lines.proofs.Sums.{begin_line, end_line, entry_line, left_line, record_count_line}
 use Rattle.ledger_lines.proofs.Single.{given_back, one_line, one_line_of}
 use Rattle.ledger_lines.proofs.laws.written_lines_are_read.Goals as goal
 
@@ -7,6 +7,7 @@ returns c = record {
   begin = begin_line;
   entry = entry_line;
   left = left_line;
+  record_count = record_count_line;
   end = end_line;
   one_of_value = one_line_of;
   one_of_octets = one_line;

@@ -10,7 +10,7 @@ pub returns-in_default-clause-taken : goal.returns-in_default-clause-taken
 returns-in_default-clause-taken g c = keeps_none _ _ c.in_default.ensures.none _ _
 
 pub returns-clause-hands : goal.returns-clause-hands
-returns-clause-hands g c = hands_one _ _ c.in-Some.outgoing _ c.take-taken.ensures.same c.in-Some.ensures.some c.in-Some.ensures.answers c.response.ensures _ _ c.send-delivery.ensures.sends
+returns-clause-hands g c = hands_one _ _ c.in-Some.outgoing _ c.take-taken.ensures.same c.in-Some.ensures.some c.in-Some.ensures.answers c.response.ensures _ _ c.send.ensures.sends
 
 pub returns-clause-taken : goal.returns-clause-taken
-returns-clause-taken g c = keeps_one _ _ c.in-Some.outgoing c.in-Some.ensures.some _ _ _ (c.tell_fault.ensures ∙ c.keep.ensures)
+returns-clause-taken g c = keeps_one _ _ c.in-Some.outgoing c.in-Some.ensures.some _ _ _ c.keep.ensures

@@ -1,3 +1,4 @@
+use Rattle.std.proofs.Common.{refl}
 use Rattle.std.specs.Prelude.{Result, Ok, Err}
 use Rattle.rad_lane.specs.declared.accepting.Taken.{Taken}
 use Rattle.rad_lane.specs.declared.accepting.Refusal.{Refusal}
@@ -23,8 +24,4 @@ pub accept-requires : goal.accept-requires
 accept-requires c = c.takes.ensures.0 cc
 
 pub returns-then-not-takes-clause-wrong : goal.returns-then-not-takes-clause-wrong
-returns-then-not-takes-clause-wrong c = record {
-  book = c.args.self.now.lane;
-  lawful = c.keep_law.ensures;
-  elsewhere = another _ c.takes.result c.takes.ensures c.if-not-takes.true;
-}
+returns-then-not-takes-clause-wrong c = (another _ c.takes.result c.takes.ensures c.if-not-takes.true, refl)

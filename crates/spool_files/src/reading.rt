@@ -1,0 +1,297 @@
+//! Reading segments whose disk may lie: what is wrong is told by its place, and the rest is read on.
+
+ghost use Rattle.std.specs.Prelude.{◌≡◌, List, IfOk, IsErrOf};
+ghost use Rattle.spool_files.specs.CheckSums.{crc32};
+ghost use Rattle.spool_files.specs.Entries.{Entry, Spells, views};
+ghost use Rattle.spool_files.specs.Reading.{beginning_fault};
+ghost use Rattle.spool_files.specs.declared.reading.BatchError.TheVariants.{Memory};
+
+use crate::batches::{is_sound, read_batches};
+use crate::counting::{Counted, sort_by_arrival};
+use crate::entries::{ReadError, read_entries};
+use crate::entry::Head;
+use crate::folder::{find_segment, segment_numbers};
+use crate::places::Places;
+use crate::segment::{AppendError, recover};
+use std::alloc::{AllocError, AllocGlobal, Global};
+use std::fs::Files;
+use std::io::{self, ErrorKind};
+
+/// The version of the format.
+pub const VERSION: u16 = 1;
+
+/// What is wrong with a segment.
+#[derive(Clone, Copy, PartialEq, Eq)]
+pub enum FaultKind {
+    /// The CRC-32 beside a batch is not that of its octets.
+    WrongSum,
+    /// The octets of a batch are not those of entries.
+    NotEntries,
+    /// Behind an open gate is no whole batch.
+    CutShort,
+    /// It does not begin as the segment of its number.
+    NoBeginning,
+    /// A later program wrote it. Nothing of it is read.
+    LaterVersion,
+}
+
+impl FaultKind {
+    /// Returns the name of the fault.
+    pub fn name(self) -> &'static str {
+        match self {
+            FaultKind::WrongSum => "wrong sum",
+            FaultKind::NotEntries => "not entries",
+            FaultKind::CutShort => "cut short",
+            FaultKind::NoBeginning => "no beginning",
+            FaultKind::LaterVersion => "later version",
+        }
+    }
+}
+
+/// Something is wrong with a segment: its disk lies, or another hand wrote it. No crash leaves it so. What else is in the
+/// segment was read; as long as there is a fault, no segment should be removed.
+#[derive(Clone, Copy, PartialEq, Eq)]
+pub struct Fault {
+    /// The segment's number.
+    pub segment: u64,
+    /// Where in its file the batch begins.
+    pub offset: usize,
+    /// What is wrong.
+    pub kind: FaultKind,
+}
+
+/// Why a batch was not read.
+#[derive(Clone, Copy, PartialEq, Eq)]
+pub enum BatchError {
+    /// Memory was refused.
+    Memory,
+    /// Its CRC-32 is not that of its octets.
+    WrongSum,
+    /// Its octets are not those of entries.
+    NotEntries,
+}
+
+/// Reads the entries of a batch.
+///
+/// # Errors
+///
+/// `WrongSum` if its CRC-32 is not that of its octets, else `NotEntries` if these are not those of any entries.
+pub fn read_batch(alloc: Global, check: u32, body: &[u8]) -> Result<Vec<(Head, &[u8])>, BatchError>
+    ensures sound { IfOk result (λ _. check ≡ crc32 body.now) }
+    ensures found { IfOk result (λ v. Spells body.now (views v.items)) }
+    ensures wrong { IsErrOf result BatchError.WrongSum → check ≡ crc32 body.now → ⊥ }
+    ensures malformed { IsErrOf result BatchError.NotEntries → (entries : List Entry) → Spells body.now entries → ⊥ }
+    ensures sum_first { IsErrOf result BatchError.NotEntries → check ≡ crc32 body.now }
+{
+    if !is_sound(check, body) {
+        return Err(BatchError::WrongSum);
+    }
+    match read_entries(alloc, body) {
+        Ok(entries) => Ok(entries),
+        Err(ReadError::Memory) => Err(BatchError::Memory),
+        Err(ReadError::Malformed) => Err(BatchError::NotEntries),
+    }
+}
+
+/// Returns what is wrong with the first entry of the segment of a number, if something is.
+pub fn fault_of_beginning(number: u64, head: &Head) -> Option<FaultKind>
+    ensures { result ≡ beginning_fault number head.now }
+{
+    match head {
+        Head::Begun(begun) if begun.version > VERSION => Some(FaultKind::LaterVersion),
+        Head::Begun(begun) if begun.version == VERSION && begun.number == number => None,
+        _ => Some(FaultKind::NoBeginning),
+    }
+}
+
+/// What was read of a segment.
+#[derive(Drop)]
+pub struct SegmentRead<'a> {
+    /// The entries of its sound batches, in their order.
+    pub entries: Vec<(Head, &'a [u8])>,
+    /// What is wrong with it, in the order of the places.
+    pub faults: Vec<Fault>,
+}
+
+/// Returns what is wrong with the beginning of a segment of which these entries are the first batch.
+fn fault_of_first(number: u64, entries: &[(Head, &[u8])]) -> Option<FaultKind> {
+    match entries {
+        [(head, _), ..] => fault_of_beginning(number, head),
+        [] => Some(FaultKind::NoBeginning),
+    }
+}
+
+/// Reads the batches of a segment's file, each that is sound.
+///
+/// # Errors
+///
+/// If memory is refused.
+pub fn read_segment(
+    alloc: Global,
+    number: u64,
+    file: &[u8],
+) -> Result<SegmentRead<'_>, AllocError> {
+    let found = read_batches(alloc, file)?;
+    let mut entries = Vec::new(alloc);
+    let mut faults = Vec::new(alloc);
+    let mut offset = 0_usize;
+    for batch in &found.batches {
+        let (check, body) = *batch;
+        let kind = match read_batch(alloc, check, body) {
+            Ok(read) => {
+                let kind = if offset == 0 {
+                    fault_of_first(number, &read)
+                } else {
+                    None
+                };
+                if kind == Some(FaultKind::LaterVersion) {
+                    faults.push(Fault {
+                        segment: number,
+                        offset,
+                        kind: FaultKind::LaterVersion,
+                    })?;
+                    return Ok(SegmentRead { entries, faults });
+                }
+                entries.extend_from_slice(&read)?;
+                kind
+            }
+            Err(BatchError::Memory) => return Err(AllocError),
+            Err(BatchError::WrongSum) => Some(FaultKind::WrongSum),
+            Err(BatchError::NotEntries) => Some(FaultKind::NotEntries),
+        };
+        if let Some(kind) = kind {
+            faults.push(Fault {
+                segment: number,
+                offset,
+                kind,
+            })?;
+        }
+        offset = offset.saturating_add(9).saturating_add(body.len());
+    }
+    if file.get(found.end) == Some(&1) {
+        faults.push(Fault {
+            segment: number,
+            offset: found.end,
+            kind: FaultKind::CutShort,
+        })?;
+    }
+    Ok(SegmentRead { entries, faults })
+}
+
+/// What was read of a spool.
+#[derive(Drop)]
+pub struct SpoolRead {
+    /// The requests that are open, in the order in which they came, and the answers that are remembered.
+    pub counted: Counted,
+    /// What is wrong with its segments, the oldest first.
+    pub faults: Vec<Fault>,
+    /// The numbers of its segments, in their order.
+    pub segments: Vec<u64>,
+}
+
+impl AppendError {
+    /// Returns it as an error of the system.
+    pub fn as_io(self) -> io::Error {
+        match self {
+            AppendError::Failed(fault) => {
+                io::Error::from_raw_os_error(i32::try_from(fault.number).unwrap_or(0))
+            }
+            AppendError::Full => ErrorKind::StorageFull.into(),
+            AppendError::Memory => ErrorKind::OutOfMemory.into(),
+        }
+    }
+}
+
+/// What became known of a segment when its entries were entered.
+#[derive(Drop)]
+pub struct SegmentEntered {
+    /// What is wrong with it.
+    pub faults: Vec<Fault>,
+    /// How many octets its file has.
+    pub octets: usize,
+}
+
+/// Has the system keep what a segment has, and enters its entries in the table of places.
+///
+/// # Errors
+///
+/// If the system or memory refuses it. The table is of no use then.
+pub fn enter_segment<R: Files>(
+    rt: &R,
+    alloc: Global,
+    folder: &str,
+    number: u64,
+    places: &mut Places,
+) -> io::Result<SegmentEntered> {
+    let (mut device, octets) = find_segment(rt, alloc, folder, number)?;
+    if let Err(error) = recover(alloc, &mut device, &octets) {
+        return Err(error.as_io());
+    }
+    let read = read_segment(alloc, number, &octets)?;
+    for entry in &read.entries {
+        places.enter(&entry.0)?;
+    }
+    Ok(SegmentEntered {
+        faults: read.faults,
+        octets: octets.len(),
+    })
+}
+
+/// Counts the entries of a segment that were entered.
+///
+/// # Errors
+///
+/// If the system or memory refuses it. What was counted is of no use then.
+pub fn count_segment<R: Files>(
+    rt: &R,
+    alloc: Global,
+    folder: &str,
+    number: u64,
+    places: &Places,
+    now: u64,
+    span: u64,
+    counted: &mut Counted,
+) -> io::Result<()> {
+    let (_, octets) = find_segment(rt, alloc, folder, number)?;
+    let read = read_segment(alloc, number, &octets)?;
+    for entry in &read.entries {
+        let (head, text) = *entry;
+        counted.count(alloc, places, now, span, &head, text)?;
+    }
+    Ok(())
+}
+
+/// Reads the segments of a folder, the oldest first and one at a time, and has the system keep what was read: the requests
+/// that are open, and the answers to which no more than `span` milliseconds passed up to `now`.
+///
+/// # Errors
+///
+/// If the system or memory refuses it.
+pub fn read_spool<R>(
+    rt: &R,
+    alloc: Global,
+    folder: &str,
+    now: u64,
+    span: u64,
+) -> io::Result<SpoolRead>
+where
+    R: Files + AllocGlobal + Copy,
+{
+    let segments = segment_numbers(rt, alloc, folder)?;
+    let mut places = Places::new(alloc);
+    let mut faults = Vec::new(alloc);
+    for number in &segments {
+        let entered = enter_segment(rt, alloc, folder, *number, &mut places)?;
+        faults.extend_from_slice(&entered.faults)?;
+    }
+    let mut counted = Counted::new(alloc, 0);
+    for number in &segments {
+        count_segment(rt, alloc, folder, *number, &places, now, span, &mut counted)?;
+    }
+    sort_by_arrival(counted.requests.as_mut_slice());
+    Ok(SpoolRead {
+        counted,
+        faults,
+        segments,
+    })
+}
