@@ -26,7 +26,7 @@ SEEDS ?= 1000
 FIRST ?= 1
 
 .PHONY: help build run serve replay test edits mutants scripts definitions simulate growths spoiled soak cluster bench figures bench-queue \
-	bench-spool
+	bench-spool bench-audit bench-instructions
 
 # What `make` alone does: the line above each target that is called by hand.
 help:
@@ -162,7 +162,15 @@ bench-queue:
 # that were built. FOLDER says on which file system.
 #: bench-spool measures the files of a spool beside a plain C program
 bench-spool:
-	@python3 -m bench.spool crates/spool_files/out/spool_files_tests $(FOLDER)
+	@python3 -m bench.spool crates/library_tests/out/library_tests_tests $(FOLDER)
+
+#: bench-audit measures the auditor beside sha256sum and jq
+bench-audit:
+	@python3 -m bench.audit $(AUDITOR)
+
+#: bench-instructions counts the instructions of front and lanes for each request, by valgrind; BOOKS="1000" says how many the books have
+bench-instructions:
+	@python3 -m bench.instructions $(PROGRAM) $(BOOKS)
 
 # Where `make install` puts things. DESTDIR stands before each of them.
 VERSION := $(shell sed -n 's/^VERSION = "\(.*\)"$$/\1/p' tools/version.py)

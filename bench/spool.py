@@ -2,10 +2,12 @@
 
 usage: python3 -m bench.spool TESTS [FOLDER]
 
-TESTS is the program that `rt test` leaves in crates/spool_files/out. The folder, a temporary one where none is given, says on which file
+TESTS is the program that `rt test` leaves in crates/library_tests/out. The folder, a temporary one where none is given, says on which file
 system. Both write batches of so many records of 200 octets, each with two syncs, in turn; the quickest of three runs counts. The spool's
-records have their heads beside their octets, and entries that close earlier ones. Then a million requests that are open are read.
+records have their heads beside their octets, and entries that close earlier ones; it removes no segment. The plain C program sums and
+copies no record: it writes the same octets each time. Then a million requests that are open are read.
 """
+import hashlib
 import os
 import pathlib
 import resource
@@ -35,7 +37,7 @@ def taken(words, **how):
 
 def writes(trials, folder, batches, size):
     """The seconds that each of the two takes for so many batches."""
-    numbers = {"span": 1000, "most": MOST, "count": size, "text": OCTETS - 4, "batches": batches, "first": 1000, "run": 1}
+    numbers = {"span": 1000, "most": MOST, "count": size, "text": OCTETS - 4, "batches": batches, "first": 1000, "run": 1, "keeps": 1}
     spool = taken(trials.words(WRITES), env=environment_of(folder / "spool", numbers))
     plain = taken([folder / "plain", folder / "file", str(batches), str(size), str(OCTETS)])
     for left in [folder / "file", *(folder / "spool").iterdir()]:
@@ -53,8 +55,8 @@ def measure_writes(trials, folder):
 
 
 def entry_of(arrival):
-    """A request that is open, of 200 octets."""
-    key = arrival.to_bytes(8, "big") * 2, bytes([192, 0, 2, arrival % 7]), arrival % 60_000, arrival % 256
+    """A request that is open, of 200 octets, whose Authenticator is in no order."""
+    key = hashlib.md5(arrival.to_bytes(8, "big")).digest(), bytes([192, 0, 2, arrival % 7]), arrival % 60_000, arrival % 256
     return segments.entry(2, (*key, bytes([192, 0, 2, 1]), 1813, arrival, 1, 0, arrival, arrival), bytes(OCTETS))
 
 

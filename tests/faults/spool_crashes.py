@@ -2,15 +2,16 @@
 
 usage: python3 -m tests.faults.spool_crashes TESTS [--long]
 
-TESTS is the program that `rt test` leaves in crates/spool_files/out. A child of it writes segments to a folder under load, and is killed
+TESTS is the program that `rt test` leaves in crates/library_tests/out. A child of it writes segments to a folder under load, and is killed
 at random moments, on a tmpfs and on the file system of the temporary folder. Then all that it acknowledged is there, once, and the batch
-that it was at whole or not at all. The same holds where a write, a sync or an unlink fails, once or for ever. Segments that are cut short
-or changed give no other entry than was written, and both readers name the same faults. With --long there are 500 kills and 100,000 random
-files. The last line is `N passed, M failed`.
+that it was at whole or not at all. The same holds where a write, a sync or an unlink fails, once or for ever, where a file has no room
+within a batch, and where a segment has no room for one. Segments that are cut short or changed give no other entry than was written, and
+both readers name the same faults. With --long there are 500 kills and 100,000 random files. The last line is `N passed, M failed`.
 """
 import errno
 import pathlib
 import random
+import resource
 import subprocess
 import sys
 import tempfile
@@ -30,6 +31,8 @@ STEPPED = 400
 KILLS, RANDOM_FILES = (500, 100_000) if IS_LONG else (40, 2_000)
 MEMORY = "/dev/shm" if pathlib.Path("/dev/shm").is_dir() else None
 FIRST, SPAN, MOST, BATCH = 1_000, 300, 20_000, 3
+# How many octets a segment has at most.
+GREATEST = 1 << 24
 # What a child needs more than its folder.
 LOAD = {"span": SPAN, "most": MOST, "count": BATCH, "text": 20}
 TRIALS = Trials.of(sys.argv[1] if len(sys.argv) == 2 else sys.exit(__doc__))
@@ -67,19 +70,19 @@ class Expected:
 
 
 class Trial:
-    """A folder to which children write, one after the other, and what they acknowledged."""
+    """A folder to which children write, one after the other, and what is expected by what they acknowledged."""
 
     def __init__(self, folder):
-        self.folder, self.runs, self.next, self.batches = pathlib.Path(folder, "spool"), count(1), FIRST, []
+        self.folder, self.runs, self.next, self.expected = pathlib.Path(folder, "spool"), count(1), FIRST, Expected()
 
     def load(self, run, batches):
         """The numbers of a child's load."""
         return {**LOAD, "run": run, "first": self.next, "batches": batches}
 
-    def run(self, batches, more=None):
+    def run(self, batches, more=None, **other):
         """Runs a child to its end. Returns what it printed and the batch that was not acknowledged, if there is one."""
         run = next(self.runs)
-        ran = TRIALS.run(WRITES, self.folder, more, **self.load(run, batches))
+        ran = TRIALS.run(WRITES, self.folder, more, **self.load(run, batches) | other)
         return ran, self.take(run, told_of(ran.stdout.splitlines()))
 
     def take(self, run, lines):
@@ -91,26 +94,21 @@ class Trial:
                 tried = (run, *map(int, numbers))
                 self.next = tried[1] + tried[2]
             elif word == "ok":
-                self.batches.append(tried)
+                self.expected.add(*tried)
                 tried = None
         return tried
 
     def check(self, left):
-        """Both readers find what was acknowledged, with the batch that was left or without."""
+        """Both readers find what was acknowledged, with the batch that was left or without. Segments are their owner's alone."""
         found, now = read_both(self.folder, self.next), self.next
         requests = [(entry[1][6], entry[1][7]) for entry in found.requests]
         answers = {(entry[1][6], entry[1][4]) for entry in found.answers}
-        expected = Expected()
-        for batch in self.batches:
-            expected.add(*batch)
-        with_left = Expected()
-        for batch in self.batches + ([left] if left else []):
-            with_left.add(*batch)
         assert not found.faults, found.faults
-        is_there = (requests, answers) == with_left.told(now)
-        assert is_there or (requests, answers) == expected.told(now), (len(requests), len(answers), left)
-        if left and is_there:
-            self.batches.append(left)
+        if left and (requests, answers) != self.expected.told(now):
+            self.expected.add(*left)
+        assert (requests, answers) == self.expected.told(now), (len(requests), len(answers), left)
+        files = list(self.folder.iterdir())
+        assert self.folder.stat().st_mode & 0o777 == 0o700 and all(file.stat().st_mode & 0o777 == 0o600 for file in files), files
 
 
 def read_both(folder, now):
@@ -135,7 +133,7 @@ def on(place):
 
 def told_of(lines):
     """The lines of what a child printed that tell of its batches."""
-    return [line for line in lines if line.split(" ")[0].rstrip() in ("try", "ok", "failed")]
+    return [line for line in lines if line.split(" ")[0].rstrip() in ("try", "ok")]
 
 
 def until_first(output):
@@ -187,6 +185,84 @@ def failing_steps_lose_nothing():
         for kind, error in STEPS:
             for first, times in ((1, 1), (2, 1), (1, 10**9)) if kind == "unlink" else ((1, 1), (7, 1), (100, 1), (50, 10**9)):
                 fails_at(trial, library, kind, error, first, times)
+
+
+def without_room(trial, octets):
+    """Runs a child whose files have room for so many octets, so that the system writes a batch in part, and checks what it left."""
+    run = next(trial.runs)
+    # A write beyond the limit fails, and kills no child, as long as its signal is ignored.
+    how = {"restore_signals": False, "preexec_fn": lambda: resource.setrlimit(resource.RLIMIT_FSIZE, (octets, octets)),
+           "capture_output": True, "text": True, "timeout": 60}
+    ran = subprocess.run(TRIALS.words(WRITES), env=environment_of(trial.folder, trial.load(run, STEPPED)), **how)
+    assert ran.returncode > 0, (octets, ran.returncode, ran.stderr[-200:])
+    trial.check(trial.take(run, told_of(ran.stdout.splitlines())))
+
+
+def files_without_room_lose_nothing():
+    with on(MEMORY) as folder:
+        trial = Trial(folder)
+        for octets in (*range(45), *range(500, 900, 11)):
+            without_room(trial, octets)
+        ran, left = trial.run(STEPPED)
+        assert ran.returncode == 0, ran.stderr[-300:]
+        trial.check(left)
+
+
+def segments_are_filled():
+    """Batches without an entry, and batches of the greatest entries up to the end of a segment, beyond which none is written."""
+    with on(MEMORY) as folder:
+        trial = Trial(folder)
+        ran, left = trial.run(5, count=0)
+        assert ran.returncode == 0 and not left, ran.stderr[-300:]
+        trial.check(None)
+        ran, left = trial.run(10**6, count=4, text=4096, most=2 * GREATEST)
+        assert ran.returncode > 0 and left, ran.returncode
+        trial.check(None)
+        lengths = sorted(len(file) for _, file in segments.in_folder(trial.folder))
+        assert GREATEST - 18_000 < lengths[-1] <= GREATEST, lengths
+
+
+def request(number, text):
+    """A request that came in, with a text of so many octets."""
+    key = number.to_bytes(16, "big"), bytes([192, 0, 2, 9]), 40_000, number % 256
+    return segments.entry(2, (*key, bytes([192, 0, 2, 1]), 1813, number, 6, 2, 8, 5), bytes(text))
+
+
+def of_length(length):
+    """A segment of so many octets, with requests of the least and of the greatest size."""
+    begun, head = [segments.entry(1, (1, 6, 1))], len(request(0, 0))
+    greatest, rest = divmod(length - len(segments.segment([begun, []])) - len(request(0, 20)), head + 4096)
+    texts = [20, *[4096] * greatest, rest - head] if rest >= head + 20 else [20, 20, *[4096] * (greatest - 1), rest + 4096 - 20 - head]
+    return segments.segment([begun, [request(number, text) for number, text in enumerate(texts)]])
+
+
+def greatest_segments_are_read_alike():
+    """A segment of 16 MiB is read, and one of an octet more is refused."""
+    file = of_length(GREATEST)
+    assert len(file) == GREATEST
+    spool = both_read([file])
+    assert {len(text) for _, _, text in spool.requests} >= {20, 4096} and not spool.faults, spool.faults
+    with on(MEMORY) as folder:
+        pathlib.Path(folder, f"{1:016x}.spool").write_bytes(file + b"\0")
+        assert TRIALS.run(READS, folder, now=10, span=SPAN).returncode > 0
+
+
+def bounds():
+    """Segments with an entry of each kind whose text is at a bound, or beyond one, and with a batch without entries."""
+    begun = [segments.entry(1, (1, 6, 1))]
+    key = bytes(16), bytes([192, 0, 2, 9]), 40_000, 7
+    for length in (0, 1, 19, 20, 255, 256, 4096, 4097, 65_535):
+        yield [begun, [], [request(1, length)]]
+        yield [begun, [segments.entry(3, (*key, 6, 2, 9, 7), bytes(length))]]
+        yield [begun, [segments.entry(4, (*key, 8), bytes(length))], []]
+        yield [[segments.entry(1, (1, 6, 1), bytes(length))]]
+    yield [[], begun, [request(1, 20)]]
+
+
+def bounds_are_read_alike():
+    found = [both_read([segments.segment(batches)]) for batches in bounds()]
+    refused = [any(name == "not entries" for _, _, name in spool.faults) for spool in found]
+    assert (len(found), sum(refused)) == (37, 22), (len(found), refused)
 
 
 def size_stays_bounded():
@@ -271,7 +347,8 @@ def random_segments_are_read_alike():
 
 
 def main():
-    tests = [kills_leave_what_was_acknowledged, failing_steps_lose_nothing, size_stays_bounded, spoiled_segments_are_read_alike,
+    tests = [kills_leave_what_was_acknowledged, failing_steps_lose_nothing, files_without_room_lose_nothing, segments_are_filled,
+             greatest_segments_are_read_alike, bounds_are_read_alike, size_stays_bounded, spoiled_segments_are_read_alike,
              random_segments_are_read_alike]
     try_each(tests, fault_of)
 

@@ -11,6 +11,7 @@ import array
 import contextlib
 import fcntl
 import os
+import pathlib
 import pty
 import resource
 import signal
@@ -31,8 +32,8 @@ ATTRIBUTES = "0111626f62406578616d706c652e6f72672806000000012c045331"
 EVENTS = f"nas {{}} 40000 make 4 7 {ATTRIBUTES}\nstep 0\n"
 ANSWERS = f"nas: new 0 0\nstep: sent 4 0 59 {ATTRIBUTES}210c00000000000000000000\nend: queued 0 outstanding 1 untaken 0\n"
 
-# How many commands two programs share.
-COMMANDS = 50
+# How many commands two programs share, how often another writer takes the room of an output, and how often it is looked what a thread does.
+COMMANDS, FILLED, LOOKS = 50, 30, 50
 
 # The result of each of these steps is `step: idle`, and all of them are more than the program collects before it writes.
 STEPS = 2000
@@ -120,6 +121,29 @@ def test_an_input_that_does_not_block_is_replayed(stage):
     hope("the end", stage.in_parts(one_request(), 64, "replay", blocks=False), (3, ANSWERS, ""))
 
 
+def test_an_input_that_does_not_block_is_waited_for(stage):
+    """While nothing more comes, no thread works all the time."""
+    octets = one_request()
+    ours, theirs = os.pipe()
+    os.set_blocking(ours, False)
+    with stage.begun("replay", stdin=ours) as process:
+        os.write(theirs, octets[:64])
+        until_read(ours, process)
+        looks = [states_of(process) for _ in range(LOOKS)]
+        os.write(theirs, octets[64:])
+        os.close(theirs)
+        os.close(ours)
+        hope("how it ends", ended(process), (3, ANSWERS, ""))
+    hope("threads that work all the time", [thread for thread in looks[0] if all(look.get(thread) == "R" for look in looks)], [])
+
+
+def states_of(process):
+    """The letter of the state of each thread of a process, some milliseconds later."""
+    time.sleep(0.01)
+    threads = pathlib.Path(f"/proc/{process.pid}/task").iterdir()
+    return {thread.name: (thread / "stat").read_text().rpartition(")")[2].split()[0] for thread in threads}
+
+
 def test_commands_in_parts_are_answered(stage):
     """Eight lines, of which the first one and the last two are commands, and the last has no line end."""
     octets = b"drain\nstate\r\n\n\xff\nstate state\n" + 64 * b" " + b"state\nstate\nstate"
@@ -187,16 +211,17 @@ def test_another_writer_of_an_output_that_does_not_block(stage):
     fill(taken)
     process.stdin.write(b"state\n")
     process.stdin.flush()
-    end = time.monotonic() + 0.3
-    while time.monotonic() < end:
-        os.read(reading, PAGE)
+    # The program may be the one that fills the room.
+    text = b""
+    for _ in range(FILLED):
+        text += os.read(reading, PAGE)
         fill(taken)
         time.sleep(0.01)
     os.close(taken)
     process.stdin.close()
     with os.fdopen(reading, "rb") as left:
-        text = left.read().replace(b"\0", b"").decode()
-    hope("what it writes", text, STATE.format("open") + END)
+        text += left.read()
+    hope("what it writes", text.replace(b"\0", b"").decode(), STATE.format("open") + END)
     hope("how it ends", (process.wait(PATIENCE), process.stderr.read()), (0, b""))
 
 

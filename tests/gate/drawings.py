@@ -212,7 +212,8 @@ PLACES = {
     "rad_packet": (2, 11),
 }
 # Between which columns an arrow goes down that would meet a crate in its target's column.
-GUTTERS = {("library_tests", "ledger_lines"): 3.5, ("config_json", "json_objects"): 4.5, ("ledger_lines", "json_objects"): 4.5,
+GUTTERS = {("library_tests", "ledger_lines"): 3.5, ("library_tests", "spool_files"): 4.5, ("config_json", "json_objects"): 4.5,
+           ("ledger_lines", "json_objects"): 4.5,
            ("rad_audit", "rad_files"): 0.5, ("rad_audit", "rad_log"): 1.5, ("ledger_rules", "rad_lane"): 3.5,
            ("rad_proxy", "rad_advice"): 0.5, ("config_json", "rad_files"): 0.5, ("config_json", "rad_log"): 0.5,
            ("config_json", "rad_realms"): 1.5, ("rad_replay", "rad_files"): 0.5, ("rad_metrics", "rad_log"): 0.5}

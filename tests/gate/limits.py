@@ -23,11 +23,9 @@ LIMITS, RINGS, WAKES, LEFT = "network/limits", "network/parallel_lanes", "timing
 # By source: each number, and what sees it: a test of a script, a row of tests/rows, or one of the above.
 NUMBERS = {
     "block_queue/src/block_queue.rt": {"MOST": ("0x8000_0000_0000_0000", PROVED)},
-    "spool_files/src/check_sum.rt": {"POLYNOMIAL": ("0xedb8_8320", PROVED)},
     "spool_files/src/folder.rt": {"MODE": ("0o600", FORM), "FOLDER_MODE": ("0o700", FORM), "DIGITS": ("16", FORM)},
     "spool_files/src/reading.rt": {"VERSION": ("1", PROVED)},
     "spool_files/src/segment.rt": {"MOST_OCTETS": ("1 << 24", PROVED), "BESIDE": ("10", PROVED)},
-    "spool_files/src/tests.rt": {"BATCHES": ("40", CHOICE)},
     "ledger_files/src/batch.rt": {"SHARED": ("65_536", CHOICE), "LONG": ("2048", CHOICE), "THREADS": ("3", CHOICE)},
     "ledger_files/src/chain.rt": {"SUM_OCTETS": ("32", PROVED)},
     "ledger_files/src/tail.rt": {"TAIL_OCTETS": ("75", PROVED)},
@@ -46,6 +44,7 @@ NUMBERS = {
     "rad_advice/src/near.rt": {"MOST_EDITS": ("2", PROVED)},
     "rad_advice/src/unread.rt": {"MOST_LISTED": ("20", PROVED)},
     "rad_audit/src/auditing.rt": {"READ_OCTETS": ("262_144", CHOICE), "LINES_APART": ("65_536", "ledger/auditor_spoiled_lines of_places")},
+    "rad_audit/src/blocks.rt": {"LINES_EACH": ("64", CHOICE), "MOST_THREADS": ("16", CHOICE)},
     "rad_audit/src/facts.rt": {"USER_NAME": ("1", PROVED), "ACCT_STATUS_TYPE": ("40", PROVED), "ACCT_INPUT_OCTETS": ("42", PROVED),
                                "ACCT_OUTPUT_OCTETS": ("43", PROVED), "ACCT_SESSION_TIME": ("46", PROVED),
                                "ACCT_INPUT_GIGAWORDS": ("52", PROVED), "ACCT_OUTPUT_GIGAWORDS": ("53", PROVED)},

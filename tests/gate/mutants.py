@@ -5,9 +5,11 @@ usage: python3 -m tests.gate.mutants COUNT SEED SECONDS [AREA ..]    tries so ma
 
 An AREA is a crate or a folder of tools, of which each has its turn. Functions with a contract on what they give are left out: the prover
 sees what is planted there. The changes of all crates are one program, in which a number chooses one. The first run makes it, and runs each
-script once without a change. That tells which scripts reach which changes. What fails there is left out and listed. Later runs take both
-from out/mutants/ until a source changes. Then scripts that reach a change run for SECONDS at most, until one fails or takes too long: first
-the quick ones, and those that saw others of its area. What none sees is printed, with how many ran of how many.
+script once without a change. That tells which scripts, and which of their tests, reach which changes. What fails there is left out and
+listed. Later runs take both from out/mutants/ until a source changes. Then scripts that reach a change run for SECONDS at most, until one
+fails or takes too long: first the quick ones, and those that saw others of its area. Of a script whose tests can be named, those run that
+reach it. What fails has to pass without the change, and to fail with it again, or it does not count. What none sees is printed, with how
+many ran of how many.
 tests/lib/mutants/no_fault.txt lists changes that are no fault, each with its reason.
 """
 import collections
@@ -17,6 +19,7 @@ import os
 import pathlib
 import queue
 import random
+import re
 import resource
 import shutil
 import signal
@@ -28,8 +31,10 @@ from concurrent.futures import ThreadPoolExecutor
 
 from tests.gate.scripts import PROGRAM, SCRIPTS
 from tests.lib import TOP
+from tests.lib.mutants import by_test
 from tests.lib.mutants import script_changes as scripts
 from tests.lib.mutants.program import State, Tree
+from tests.lib.starting import DEATH_OF_PARENT, LIBC
 
 OUT, NO_FAULT = TOP / "out" / "mutants", TOP / "tests/lib/mutants/no_fault.txt"
 CRATES = ["rad_log", "ledger_state", "rad_metrics", "rad_addresses", "rad_server", "rad_telemetry", "rad_console", "rad_files",
@@ -38,10 +43,12 @@ PROGRAMS = ["rad_proxy", "rad_audit", "config_json"]
 # Scripts that look at the repository alone, or that want whole machines, or programs that are not made here.
 OUTSIDE = ("gate/", "cluster/", "models/", "faults/queue_memory", "service/alerts", "configuration/schema")
 ROOMS, FACTOR, MORE_SECONDS = 2, 3, 30
-# Of a script that saw so many changes of an area, its seconds count this much less.
-KILL_WORTH = 4
-LONGEST = 900
-MEMORY, FILE_OCTETS = 8 << 30, 2 << 30
+# A test of fewer seconds is a quick one. Of a script that saw so many changes of an area, its seconds count this much less.
+QUICK, KILL_WORTH = 6, 4
+LONGEST, LINES_TOLD = 1800, 3
+# What tells that the tests of a script can be named.
+NAMED = re.compile("try_named|try_in_folders")
+MEMORY, FILE_OCTETS = 8 << 30, 8 << 30
 LEFT = shutil.ignore_patterns("out", ".git", "__pycache__", "proofs", "specs", "must-fail", "wrong-bodies")
 
 
@@ -76,6 +83,10 @@ def sum_of_look(script):
     return sum_of(script.file, TOP / "tools", TOP / "packaging", TOP / "tests/lib/mutants/script_changes.py")
 
 
+# A script, the tests of it that run, where they can be named, and how long that takes.
+Run = collections.namedtuple("Run", "script names seconds")
+
+
 class Room:
     """A copy of the repository in which scripts run, with programs whose change is chosen by a file."""
 
@@ -106,17 +117,18 @@ class Room:
         for file in script_files():
             self.put(file, (TOP / file).read_text())
 
-    def run(self, script, seconds):
-        """Runs a script; gives whether it passed, and what it took. What it leaves running ends with it."""
+    def run(self, script, seconds, names=(), **variables):
+        """Runs a script, or the tests of it that are named; gives whether it passed, and what it took. What it leaves running ends with it."""
         word = self.place("rad_proxy") if script.word == PROGRAM else self.folder / script.word
-        words = [sys.executable, "-m", script.module, str(word)]
+        (self.folder / "said").write_text("")
+        words = [sys.executable, "-m", script.module, str(word), *names]
         if not os.geteuid():
             words = ["unshare", "--pid", "--fork", "--kill-child", "--mount-proc", *words]
         began = time.monotonic()
         with tempfile.TemporaryDirectory(prefix="mutant-") as folder, (self.folder / "said").open("wb") as said:
             os.chmod(folder, 0o755)
             how = {"cwd": self.folder, "stdout": said, "stderr": said, "stdin": subprocess.DEVNULL, "preexec_fn": bounded,
-                   "env": {**os.environ, "TMPDIR": folder}}
+                   "env": {**os.environ, "TMPDIR": folder, **variables}}
             ran = subprocess.Popen(words, start_new_session=True, **how)
             try:
                 status = ran.wait(seconds)
@@ -128,9 +140,11 @@ class Room:
 
 
 def bounded():
-    """No change fills the disk or the memory."""
-    resource.setrlimit(resource.RLIMIT_AS, (MEMORY, MEMORY))
-    resource.setrlimit(resource.RLIMIT_FSIZE, (FILE_OCTETS, FILE_OCTETS))
+    """No change fills the disk or the memory, nor does a script outlive this one."""
+    LIBC.prctl(DEATH_OF_PARENT, signal.SIGKILL)
+    for kind, most in ((resource.RLIMIT_AS, MEMORY), (resource.RLIMIT_FSIZE, FILE_OCTETS)):
+        # A script may set another one.
+        resource.setrlimit(kind, (most, resource.getrlimit(kind)[1]))
 
 
 def end(ran):
@@ -172,39 +186,60 @@ def in_rooms(rooms, tasks, work):
             done.result()
 
 
+def looked_at(room, script):
+    """Runs a script without a change; gives whether it passed, what it took, and what it and each of its tests reaches, if those can be named."""
+    room.state.choose(0)
+    by_test.forget(room.folder)
+    passed, seconds = room.run(script, LONGEST, **{by_test.ROOM: str(room.folder)})
+    told = by_test.all_of(room.folder, {"passed": passed, "seconds": seconds})
+    return told if NAMED.search((room.folder / script.file.relative_to(TOP)).read_text()) else {**told, "tests": []}
+
+
 def look(rooms, told, keep):
     """Runs each script that is not as it was once without a change, and keeps what it reaches and takes, where it passes."""
     tasks = [script for script in SCRIPTS if not script.place.startswith(OUTSIDE) and script.word != "--check"]
     tasks = [script for script in tasks if told.get(script.place, {}).get("sum") != sum_of_look(script)]
 
     def one(room, script):
-        room.state.choose(0)
-        for file in room.notes.iterdir():
-            file.unlink()
         room.put_noting()
-        passed, seconds = room.run(script, LONGEST)
-        notes = sorted(file.name.replace("+", "/") for file in room.notes.iterdir())
-        told[script.place] = {"passed": passed, "seconds": seconds, "sum": sum_of_look(script), "notes": notes,
-                              "reached": sorted(room.state.reached())}
+        told[script.place] = {**looked_at(room, script), "sum": sum_of_look(script)}
         keep()
-        print(f"{script.place}: {'passed' if passed else 'left out, since it fails without a change'}, {seconds:.0f} s", flush=True)
+        its, said = told[script.place], (room.folder / "said").read_text("utf-8", "replace").splitlines()
+        word = "passed" if its["passed"] else f"what fails without a change is left out: {' | '.join(said[-LINES_TOLD:])}"
+        print(f"{script.place}, {its['seconds']:.0f} s: {word}", flush=True)
 
     in_rooms(rooms, tasks, one)
     for room in rooms:
         room.put_back()
 
 
+class Reached:
+    """What a script, or a test of one, reaches: the numbers of programs, and the functions of tools."""
+
+    def __init__(self, told):
+        self.name, self.seconds, self.passed = told.get("test"), told["seconds"], told.get("passed")
+        self.numbers, self.notes = set(told["reached"]), told["notes"]
+
+    def reaches(self, number, note):
+        if number:
+            return number in self.numbers
+        return any(it.startswith(note) if note.endswith(":") else it == note for it in self.notes)
+
+
+def reached_by(told):
+    """What a script reaches, and those of its tests that passed, where they can be named. Nothing where the script failed, and no test of it
+    can be named and passed."""
+    tests = [Reached(it) for it in told["tests"] if it["word"] == "passed"]
+    return (Reached(told), tests) if told["passed"] or tests else None
+
+
 class Plants:
     """All changes, and which scripts reach them."""
 
-    def __init__(self, changes, reached):
-        self.changes = changes
-        self.reached = {place: told for place, told in reached.items() if told["passed"]}
-        self.numbers = {place: set(told["reached"]) for place, told in self.reached.items()}
-        self.texts = {file: (TOP / file).read_text() for file in script_files()}
-        self.kills = collections.Counter()
-        for file, text in self.texts.items():
-            self.changes += scripts.script_changes(file, text)
+    def __init__(self, changes, reached, texts):
+        self.texts, self.kills = texts, collections.Counter()
+        self.reached = {script: found for script, told in reached.items() if (found := reached_by(told))}
+        self.changes = [*changes, *(change for file, text in texts.items() for change in scripts.script_changes(file, text))]
 
     def note_of(self, change):
         """The note of the function that a change of a tool is in; of what is in none, that of any of the file."""
@@ -212,19 +247,15 @@ class Plants:
         line = scripts.line_of_function(text, change.line) if scripts.is_python(change.file, text) else 1
         return f"{change.file}:{line or ''}"
 
-    def scripts_of(self, change):
-        """The scripts that reach a change: the quick ones first, and those that saw many of its area."""
-        if change.number:
-            places = [place for place, numbers in self.numbers.items() if change.number in numbers]
-        else:
-            note = self.note_of(change)
-            places = [place for place, told in self.reached.items()
-                      if any(it.startswith(note) if note.endswith(":") else it == note for it in told["notes"])]
-        by_place, area = {script.place: script for script in SCRIPTS}, area_of(change.file)
-        return [by_place[place] for place in sorted(places, key=lambda place: self.cost(place, area))]
-
-    def cost(self, place, area):
-        return self.reached[place]["seconds"] / (1 + KILL_WORTH * self.kills[area, place])
+    def runs_of(self, change):
+        """The runs that reach a change: the quick ones first, and those of scripts that saw many of its area. The quick tests of a script are
+        one run, and each slow one is another, where tests can be named."""
+        note, area, found = "" if change.number else self.note_of(change), area_of(change.file), []
+        for script, (whole, tests) in self.reached.items():
+            if whole.reaches(change.number, note):
+                named = sorted((it for it in tests if it.reaches(change.number, note)), key=lambda it: it.seconds)
+                found += [run_of(script, part) for part in parts(named)] if named or not whole.passed else [Run(script, (), whole.seconds)]
+        return sorted(found, key=lambda run: run.seconds / (1 + KILL_WORTH * self.kills[area, run.script.place]))
 
     def chosen(self, count, seed, areas):
         """So many changes by a seed: one of each area in turn."""
@@ -243,6 +274,16 @@ class Plants:
         return found
 
 
+def parts(named):
+    """The tests that are quick as one part, and each other one as another."""
+    quick = [it for it in named if it.seconds < QUICK]
+    return [part for part in (quick, *([it] for it in named[len(quick):])) if part]
+
+
+def run_of(script, tests):
+    return Run(script, tuple(it.name for it in tests), sum(it.seconds for it in tests))
+
+
 def row_of(change):
     """What tells a change from others while lines move: the file, the text of its line, and what is changed."""
     return change.file, (TOP / change.file).read_text().splitlines()[change.line - 1].strip(), change.what
@@ -254,29 +295,46 @@ def no_faults():
     return {tuple(row[:3]): row[3] for row in rows}
 
 
-def seen_by(room, change, plants, most):
-    """Which script sees a change, or how many did not in so many seconds; the change is taken back."""
+def passes(room, run, change, texts):
+    """Whether a run passes with a change, which is taken back."""
     room.state.choose(change.number)
     if not change.number:
         room.put(change.file, change.text)
     try:
-        places, began = plants.scripts_of(change), time.monotonic()
-        for number, script in enumerate(places):
-            if time.monotonic() - began > most:
-                return None, f"{number} of {len(places)} scripts"
-            passed, _ = room.run(script, plants.reached[script.place]["seconds"] * FACTOR + MORE_SECONDS)
-            if not passed:
-                return script.place, ""
-        return None, f"all {len(places)} scripts"
+        return room.run(run.script, most_of(run), run.names, **{by_test.ENOUGH: "yes"})[0]
     finally:
         room.state.choose(0)
         if not change.number:
-            room.put(change.file, plants.texts[change.file])
+            room.put(change.file, texts[change.file])
+
+
+def most_of(run):
+    return run.seconds * FACTOR + MORE_SECONDS
+
+
+def fails(room, run, change, texts):
+    """Whether a run fails with a change, passes without it, and fails with it again: of the tests that can be named, the one that failed."""
+    if passes(room, run, change, texts):
+        return False
+    said = (room.folder / "said").read_text("utf-8", "replace")
+    run = run._replace(names=tuple(name for name in run.names if f"failed: {name}: " in said) or run.names)
+    return room.run(run.script, most_of(run), run.names)[0] and not passes(room, run, change, texts)
+
+
+def seen_by(room, change, plants, most):
+    """Which script sees a change, or how many did not in so many seconds; the change is taken back."""
+    runs, began = plants.runs_of(change), time.monotonic()
+    for number, run in enumerate(runs):
+        if time.monotonic() - began > most:
+            return None, f"{number} of {len(runs)} runs"
+        if fails(room, run, change, plants.texts):
+            return run.script.place, ""
+    return None, f"all {len(runs)} runs"
 
 
 def outcome(room, change, plants, most, no_fault):
     """What becomes of a change: a word of the table, and what there is to say."""
-    if not plants.scripts_of(change):
+    if not plants.runs_of(change):
         return "not reached", ""
     by, ran = seen_by(room, change, plants, most)
     if by:
@@ -324,7 +382,8 @@ def ready(rooms):
             room.make()
     look(rooms, told["reached"], lambda: kept.write_text(json.dumps(told)))
     changes = [scripts.Change(file, line, what, "", number) for file, line, what, number in told["changes"]]
-    return Plants(changes, told["reached"])
+    reached = {script: told["reached"][script.place] for script in SCRIPTS if script.place in told["reached"]}
+    return Plants(changes, reached, {file: (TOP / file).read_text() for file in script_files()})
 
 
 def main():

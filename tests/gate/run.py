@@ -10,9 +10,7 @@ took, as tables in Markdown, to out/times.md. Where `rt ci` passed, out/rad_prox
 sources are that it was built from. The last line is `N passed, M failed`, of all of it together; what ends badly or
 without such a line of its own counts as a failure. Before it stand the last lines of each log that tells of one.
 
-A script that fails runs once more when all the others are over, since what measures times may fail on a busy machine. What it says then
-counts. Its first log stays, as out/FOLDER-NAME.first.txt, and the gate shows the last lines of that too: whoever reads them looks for the
-reason. Where more than MOST_AGAIN scripts fail, none runs again.
+No script runs twice: what comes and goes is a fault, of the program or of the test.
 """
 import os
 import re
@@ -29,7 +27,6 @@ RT = os.environ.get("RT", "rt").split()
 # What the largest checks take, in octets.
 MEMORY_OF_A_CHECK = 5_000_000_000
 COUNTS = re.compile(r"(\d+) passed, (\d+) failed")
-MOST_AGAIN = 2
 # Of the log of what failed so many lines are shown at the end, each cut to so many characters.
 LAST_LINES, LINE_CHARACTERS = 12, 400
 
@@ -68,17 +65,6 @@ def told_by_all(program):
     with ThreadPoolExecutor(2) as pool:
         together = {script: pool.submit(told_by, script, program) for script in SCRIPTS if not script.is_alone}
     return {script: it.result() for script, it in together.items()} | {it: told_by(it, program) for it in SCRIPTS if it.is_alone}
-
-
-def told_again(told, program):
-    """What `told_by` gives of the scripts that failed, each of which runs once more, alone. Where they are many, that is nothing."""
-    again = [script for script, (_, failed, _) in told.items() if failed]
-    if len(again) > MOST_AGAIN:
-        return {}
-    for script in again:
-        script.first_log.write_bytes(script.log.read_bytes())
-        print(f"{script.name} failed, and runs once more", flush=True)
-    return {script: told_by(script, program) for script in again}
 
 
 def last_lines(log):
@@ -123,12 +109,10 @@ def main():
     times.write_text(taken(watch))
     print(f"what each crate took stands in {times}", flush=True)
     told = told_by_all(sys.argv[1])
-    again = told_again(told, sys.argv[1])
-    told |= again
     with times.open("a") as kept:
         kept.write(taken_by_scripts(told, began))
     counts = {gate: counted(status, gate)} | {script.log: it[:2] for script, it in told.items()}
-    for log in [*(it.first_log for it in again), *(it for it, (_, failed) in counts.items() if failed)]:
+    for log in (it for it, (_, failed) in counts.items() if failed):
         print(last_lines(log))
     passed, failed = map(sum, zip(*counts.values()))
     print(f"{passed} passed, {failed} failed")

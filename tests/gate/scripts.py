@@ -6,8 +6,7 @@ from tests.lib import TOP
 # What stands for the program that the gate is called with.
 PROGRAM = "PROGRAM"
 SIMULATION, AUDITOR, CONFIG_JSON = (f"crates/{name}/out/{name}" for name in ("rad_simulation", "rad_audit", "config_json"))
-QUEUE_TESTS = "crates/library_tests/out/library_tests_tests"
-SPOOL_TESTS = "crates/spool_files/out/spool_files_tests"
+LIBRARY_TESTS = "crates/library_tests/out/library_tests_tests"
 
 
 @dataclass(frozen=True)
@@ -26,11 +25,6 @@ class Script:
     @property
     def log(self):
         return TOP / "out" / f"{self.name}.txt"
-
-    @property
-    def first_log(self):
-        """Its log of before, where it failed and ran once more."""
-        return self.log.with_suffix(".first.txt")
 
     @property
     def file(self):
@@ -68,8 +62,8 @@ SCRIPTS = [
     Script("faults/refused_memory"),
     Script("faults/failing_calls"),
     Script("faults/closed_descriptors"),
-    Script("faults/queue_memory", QUEUE_TESTS),
-    Script("faults/spool_crashes", SPOOL_TESTS),
+    Script("faults/queue_memory", LIBRARY_TESTS),
+    Script("faults/spool_crashes", LIBRARY_TESTS),
     Script("faults/exit_reasons"),
     Script("faults/stdin_and_stdout"),
     Script("network/several_addresses"),

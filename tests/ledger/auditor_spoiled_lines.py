@@ -3,8 +3,8 @@
 The auditor reads the spoiled lines among lines that are right: it has to name each spoiled line by its file and number, with a reason of
 how it was spoiled, and no other line, and to count every entry that is right. Then this spoils a ledger at any octets, and compares all that is printed with what audit_model.py answers. It has the auditor read
 more than fits the memory that it gives it. It has it read many runs, whose names come back, and sees that its time grows with their number
-alone, and looks at what a terminal is told of a long ledger. Last it has it read entries that are right alone, and tells how many it reads
-in a second of processor time.
+alone, and looks at what a terminal is told of a long ledger. Last it has it read entries that are right alone, each in no more processor time
+than the model takes, and tells how many it reads in a second of that.
 
 usage: python3 -m tests.ledger.auditor_spoiled_lines AUDITOR [LINES [SEED]]    the path of rad_audit; else 100000 lines, and the seed 1
 
@@ -22,6 +22,7 @@ import resource
 import subprocess
 import sys
 import tempfile
+import time
 
 from tests.lib import TOP, Lane, Run, text
 from tests.lib.ledger.chained_cases import TAIL, sealed
@@ -47,18 +48,17 @@ SPOILED, HIDDEN = 4000, 50
 # How often one octet of a whole ledger is changed.
 ONE_OCTET = 300
 
-# How many lines stand between two that are right, at most, and how many entries are read for the speed.
+# How many lines stand between two that are right, at most, and how many entries are read for the speed, by the model one of so many.
 APART = 20
-ENTRIES = 20000
+ENTRIES, LESS = 20000, 8
 
-# The address space that the program has while it reads more than that.
+# The address space that the program has on one processor while it reads more than that, and the most memory that it takes on all of them.
 MEMORY = 16 << 20
+MOST_MEMORY = 64 << 20
+SECONDS_BETWEEN_LOOKS = 0.01
 
-# The least entries that are read in a second of processor time, on a machine that has other work too.
-LEAST = 30000
-
-# How many runs there are at once, and the most seconds of processor time for them, on a machine that has other work too.
-RUNS, MOST_SECONDS = 160000, 8
+# How many runs there are at once, and how much longer than a quarter of them they take at most: four times, on a machine that has no other work.
+RUNS, MOST_TIMES = 160000, 8
 
 KEYS = ["run", "time", "home", "lane", "serial", "record", "client", "port", "identifier", "authenticator", "sent", "reply", "response"]
 
@@ -131,12 +131,12 @@ def spoiled(chance, count):
     return [*lines, (dumped(run.end_of_all()), None)], run.lanes[0].serial
 
 
-def read(program, folder, content):
-    """What the program prints of a ledger but for hints, its status, and the processor seconds that it took."""
+def read(words, folder, content):
+    """What a program prints of a ledger but for hints, its status, and the processor seconds that it took."""
     (folder / "config.toml").write_text(CONFIG)
     (folder / "ledger").write_text(content, "utf-8")
     before = resource.getrusage(resource.RUSAGE_CHILDREN)
-    ran = subprocess.run([program, "config.toml", "ledger"], cwd=folder, capture_output=True, encoding="utf-8", timeout=SECONDS)
+    ran = subprocess.run([*words, "config.toml", "ledger"], cwd=folder, capture_output=True, encoding="utf-8", timeout=SECONDS)
     after = resource.getrusage(resource.RUSAGE_CHILDREN)
     told = "".join(line for line in ran.stderr.splitlines(keepends=True) if not line.startswith("hint: "))
     return ran.stdout.splitlines(), told, ran.returncode, after.ru_utime + after.ru_stime - before.ru_utime - before.ru_stime
@@ -144,7 +144,7 @@ def read(program, folder, content):
 
 def of_spoiled(program, folder, count, seed):
     lines, entries = spoiled(random.Random(seed), count)
-    printed, err, status, _ = read(program, folder, "".join(f"{line}\n" for line, _ in lines))
+    printed, err, status, _ = read([program], folder, "".join(f"{line}\n" for line, _ in lines))
     told = {}
     for line in printed[:-3]:
         found = re.fullmatch(r"ledger:(\d+): (\w+)", line)
@@ -214,27 +214,50 @@ def of_memory(program, folder):
         long.write(b"\n" + text([end]).encode())
         long.seek(2 * MEMORY, 1)
         long.write(b"?")
-    limit = lambda: resource.setrlimit(resource.RLIMIT_AS, (MEMORY, MEMORY))
-    ran = subprocess.run([program, "config.toml", "a", "b"], cwd=folder, capture_output=True, encoding="utf-8", timeout=SECONDS, preexec_fn=limit)
+
+    def limit():
+        os.sched_setaffinity(0, list(os.sched_getaffinity(0))[:1])
+        resource.setrlimit(resource.RLIMIT_AS, (MEMORY, MEMORY))
+
     name = f"run {1:016x} lane 0 h1"
     wanted = ["b:1: NotEntry", "b:3: torn", f"{name} from 0 entries {ENTRIES} not judged 0 whole", f"{name} accepted {ENTRIES} answered {ENTRIES} left 0"]
-    if (folder / "a").stat().st_size <= MEMORY or (ran.stdout.splitlines(), ran.stderr, ran.returncode) != (wanted, "", 5):
-        yield f"within {MEMORY} octets of memory: {ran.stdout[-200:]!r} {ran.stderr!r} {ran.returncode}"
+    for preparation in (limit, None):
+        with subprocess.Popen([program, "config.toml", "a", "b"], cwd=folder, stdout=subprocess.PIPE, stderr=subprocess.STDOUT, encoding="utf-8", preexec_fn=preparation) as ran:
+            most = most_memory(ran)
+            printed = ran.stdout.read().splitlines()
+        if (folder / "a").stat().st_size <= MEMORY or (printed, ran.returncode) != (wanted, 5) or most > MOST_MEMORY:
+            yield f"within {MEMORY} octets of memory: {printed[-2:]} {ran.returncode}, {most} octets"
+
+
+def most_memory(ran):
+    """The most memory that a process had, until it ended."""
+    most = 0
+    while ran.poll() is None:
+        with contextlib.suppress(OSError):
+            told = re.search(r"VmHWM:\s+(\d+) kB", pathlib.Path(f"/proc/{ran.pid}/status").read_text())
+            most = int(told[1]) << 10 if told else most
+        time.sleep(SECONDS_BETWEEN_LOOKS)
+    return most
 
 
 def of_runs(program, folder):
     """Many runs, each with a lane of its own that is told once, with why it is a part, in the order in which they came; the lines of all come
     twice."""
-    names = [run * 0x9E3779B97F4A7C15 % 2**64 for run in range(1, RUNS + 1)]
-    shape = dumped(Run(0, [Lane(0, "h1", HOME)]).begin()).replace(f"{0:016x}", "{}", 1)
-    front, _, back = shape.partition("{}")
-    lines = [f"{front}{name:016x}{back}\n" for name in names]
-    later = [line.replace('"file":0', '"file":1') for line in lines]
-    printed, err, _, took = read(program, folder, "".join([*lines, *later]))
-    printed = [line for line in printed if not line.endswith(" behind another run")]
-    print(f"{RUNS} runs in {took:.2f} s of processor time")
-    if [line.split()[1] for line in printed] != [f"{name:016x}" for name in names for _ in range(2)] or err or took > MOST_SECONDS:
-        yield f"{len(printed)} lanes of {RUNS} runs, {err!r}, in {took:.2f} s"
+    taken = []
+    for count in (RUNS // 4, RUNS):
+        names = [run * 0x9E3779B97F4A7C15 % 2**64 for run in range(1, count + 1)]
+        shape = dumped(Run(0, [Lane(0, "h1", HOME)]).begin()).replace(f"{0:016x}", "{}", 1)
+        front, _, back = shape.partition("{}")
+        lines = [f"{front}{name:016x}{back}\n" for name in names]
+        later = [line.replace('"file":0', '"file":1') for line in lines]
+        printed, err, _, took = read([program], folder, "".join([*lines, *later]))
+        taken.append(took)
+        printed = [line for line in printed if not line.endswith(" behind another run")]
+        print(f"{count} runs in {took:.2f} s of processor time")
+        if [line.split()[1] for line in printed] != [f"{name:016x}" for name in names for _ in range(2)] or err:
+            yield f"{len(printed)} lanes of {count} runs, {err!r}"
+    if taken[1] > MOST_TIMES * taken[0]:
+        yield f"its time grows with more than the number of runs: {taken}"
 
 
 def of_places(program, folder):
@@ -254,13 +277,14 @@ def of_places(program, folder):
 
 
 def of_speed(program, folder):
+    """Entries that are right: each takes no more processor time than the model of the auditor takes, which is in Python."""
     run = Run(1, [Lane(0, "h1", HOME)])
     lines = [run.begin(), *(run.entry(client=("192.0.2.10", NAS), more=bytes([26, 122]) + bytes(120)) for _ in range(ENTRIES)), run.end_of_all()]
-    printed, err, status, took = read(program, folder, text(chained(lines)))
-    a_second = ENTRIES / max(took, 0.001)
-    print(f"{ENTRIES} entries in {took:.2f} s of processor time: {a_second:.0f} a second")
-    if status != 0 or a_second < LEAST:
-        yield f"{printed[-1:]} {err!r} {status}, {a_second:.0f} a second"
+    printed, err, status, took = read([program], folder, text(chained(lines)))
+    *_, its = read([sys.executable, str(MODEL)], folder, text(chained(lines[:ENTRIES // LESS])))
+    print(f"{ENTRIES} entries in {took:.2f} s of processor time: {ENTRIES / max(took, 0.001):.0f} a second; by the model {ENTRIES / LESS / its:.0f}")
+    if status != 0 or took > LESS * its:
+        yield f"{printed[-1:]} {err!r} {status}: {took:.2f} s of processor time, and by the model {LESS * its:.2f} s"
 
 
 def main():

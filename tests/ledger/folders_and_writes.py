@@ -108,7 +108,8 @@ def a_limit_of_size_is_a_next_file(trial):
 
 def a_first_line_that_finds_no_room_begins_no_file_each_second(trial):
     """Where not even the first line of a file has room, one more file at most is begun in a minute. Once there is room none is missing."""
-    trial.begin(before=lambda: limit_files(100), RAD_PROXY_COUNTERS="")
+    # The log has room for this one line alone.
+    trial.begin(before=lambda: limit_files(100), RAD_PROXY_COUNTERS="", RAD_PROXY_LOG="error")
     trial.ask(100)
     until("it is told", lambda: trial.events("ledger-fault"))
     time.sleep(4.5)

@@ -15,7 +15,7 @@ import struct
 import subprocess
 import time
 
-from tests.lib import (CLASS, HERE, HOME_SECRET, LEDGER_METRICS, NAS_SECRET, START, attribute, bound, built, environment, hope, request, text_of,
+from tests.lib import (CLASS, HERE, HOME_SECRET, LEDGER_METRICS, NAS_SECRET, START, attribute, best, bound, built, environment, hope, need, request, text_of,
                        try_named, until)
 from tests.lib.ledger.trials import LATE, PATIENCE, SLACK, SYNCED, WRITTEN, Steered, Trial
 
@@ -24,8 +24,8 @@ NAME = re.compile("([0-9]{4}-[0-9]{2}-[0-9]{2})-([0-9a-f]{16})-([0-9]{6})[.]json
 BOUND, ROOM = 64 * 2**20, 4 * 2**20
 # How many entries may wait, however few octets they have, and how many more are asked for.
 PLACES, BEYOND = 180_000, 5000
-# How long writing may take on a busy machine, in seconds.
-WRITES = 120
+# How long writing may take on a busy machine, in seconds, and how long an answer is being sent where it is sent slowly.
+WRITES, SENDING = 300, 5
 
 
 def writes_what_was_acknowledged(trial):
@@ -236,33 +236,41 @@ def is_written_within_a_tenth_of_a_second(trial):
     trial.begin()
     for count in range(1, 11):
         trial.ask(1)
-        until("the entry", lambda: len(trial.entries()) == count, WRITTEN + SLACK)
+        began = trial.clock()
+        until("the entry", lambda: len(trial.entries()) == count)
+        took = trial.clock() - began
+        need(took < WRITTEN + SLACK, "it took", took)
 
 
 def is_synced_each_second(trial):
     """While entries come the file is synced at least each second, and at the end once more."""
     log = trial.room / "syncs"
     trial.begin(LD_PRELOAD=built(trial.room, "failing_disks"), SYNC_LOG=str(log))
-    began = 1000 * time.monotonic()
-    for _ in range(100):
-        trial.ask(2)
-        time.sleep(0.05)
+    until("a sync", log.exists)
+
+    def longest():
+        """The most milliseconds between two syncs, while entries come for some seconds."""
+        began = len(log.read_text().split()) - 1
+        for _ in range(100):
+            trial.ask(2)
+            time.sleep(0.05)
+        moments = [*map(int, log.read_text().split()[began:]), 1000 * time.monotonic()]
+        return max(after - before for before, after in zip(moments, moments[1:]))
+
+    best(longest, lambda milliseconds: milliseconds <= 1000 * (SYNCED + SLACK))
     last = int(1000 * time.monotonic())
     trial.ends()
-    moments = [began, *map(int, log.read_text().split())]
-    longest = max(after - before for before, after in zip(moments, moments[1:]))
-    hope("milliseconds between syncs", (longest > 1000 * (SYNCED + SLACK), longest), (False, longest))
-    hope("a sync at the end", moments[-1] >= last, True)
+    hope("a sync at the end", int(log.read_text().split()[-1]) >= last, True)
 
 
 def is_handed_over_before_it_is_sent(trial):
     """An entry is in the file while its answer is still being sent."""
-    slow = {"SLOW_PORT": str(trial.nas.getsockname()[1]), "SLOW_SEND": "1000"}
+    slow = {"SLOW_PORT": str(trial.nas.getsockname()[1]), "SLOW_SEND": str(1000 * SENDING)}
     trial.begin(LD_PRELOAD=built(trial.room, "slow_files"), **slow)
     trial.nas.sendto(request(7, START, NAS_SECRET), trial.listen)
     trial.home.setblocking(False)
     until("the request", lambda: trial.serve(b""))
-    until("the entry", lambda: trial.entries(), WRITTEN + SLACK)
+    until("the entry", lambda: trial.entries(), SENDING - 1)
     trial.nas.setblocking(False)
     hope("answers", trial.hear({7: [b"", time.monotonic(), 0]}), 0)
     until("the answer", lambda: trial.hear({7: [b"", time.monotonic(), 0]}))
@@ -287,7 +295,7 @@ def drops_are_counted(trial):
     told = until("it is told", lambda: trial.events("ledger-dropped"))
     hope("its level", all("level=error" in line for line in told), True)
     trial.folder.mkdir()
-    until("none waits", lambda: trial.number("ledger_waiting") == 0)
+    until("none waits", lambda: trial.number("ledger_waiting") == 0, WRITES)
     trial.ask(100)
     trial.ends()
     dropped = int(trial.number("ledger_dropped_total"))
@@ -308,12 +316,12 @@ def a_hundred_eighty_thousand_small_entries_wait(trial):
     trial.ask(1)
     # The folder is looked for once a second, and then the line is made.
     time.sleep(3)
-    hope("acknowledged", trial.ask(PLACES + BEYOND), PLACES + BEYOND)
+    hope("acknowledged", trial.ask(PLACES + BEYOND, seconds=WRITES), PLACES + BEYOND)
     counts = lambda: [trial.number(f"ledger_{name}") for name in ("written_total", "waiting", "dropped_total")]
-    until("all are counted", lambda: sum(counts()) == len(trial.told))
+    until("all are counted", lambda: sum(counts()) == len(trial.told), WRITES)
     hope("written, waiting and dropped", counts(), [0, 1 + PLACES, BEYOND])
     trial.folder.mkdir()
-    until("none waits", lambda: trial.number("ledger_waiting") == 0)
+    until("none waits", lambda: trial.number("ledger_waiting") == 0, WRITES)
     hope("acknowledged behind the gap", trial.ask(100), 100)
     hope("the longest answer is late", (max(trial.delays) > LATE, max(trial.delays)), (False, max(trial.delays)))
     trial.ends()
@@ -334,16 +342,18 @@ def a_killed_run_is_open(trial):
         before = trial.files()
         trial.told.clear()
         trial.begin()
-        last = time.monotonic() + chance.uniform(0.2, 1.5)
+        last, clocks = time.monotonic() + chance.uniform(0.2, 1.5), [(0, trial.clock())]
         while time.monotonic() < last:
             trial.ask(20)
-        killed = time.monotonic()
+            clocks.append((time.monotonic(), trial.clock()))
+        killed = trial.clock()
         trial.ran.kill()
         trial.ran.wait()
         files = [file for file in trial.files() if file not in before]
         entries = {entry["response"] for entry in trial.entries(files)}
         lost = [moment for response, moment in trial.told.items() if response not in entries]
-        early = [killed - moment for moment in lost if moment < killed - 0.1 - SLACK]
+        passed = [killed - next(clock for at, clock in reversed(clocks) if at <= moment) for moment in lost]
+        early = [seconds for seconds in passed if seconds > WRITTEN + SLACK]
         hope("lost from longer before the kill, and the longest", (len(early), max(early, default=0)), (0, 0))
         hope("verdict", trial.verdict(files), "open")
 

@@ -11,4 +11,4 @@ from tests.lib.proxies import NEW_LANE, NOTHING_LEFT, SECRET, Home, Nas, Proxy, 
 from tests.lib.starting import MOST_ALLOCATIONS, NOBODY, TOP, Refuser, Server, built, configuration, configured, environment, started
 from tests.lib.trying import (TRIES, LeftOut, Trial, best, conclude, hope, is_asked, need, run_trial, try_each, try_in_folders,
                               try_in_namespace, try_named)
-from tests.lib.waiting import BUFFERS, HERE, PATIENCE, awaited, bound, buffers_of, flooded, free_port, free_ports, is_so, until
+from tests.lib.waiting import BUFFERS, HERE, PATIENCE, awaited, bound, buffers_of, flooded, free_port, free_ports, idle_until_end, is_so, until

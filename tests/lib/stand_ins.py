@@ -37,7 +37,7 @@ class StandIn(threading.Thread):
         self.folder, self.is_over = folder, False
         self.mode, self.queued, self.outstanding, self.rate = "open", 0, 0, 0
         self.reads, self.answers_drain, self.stops_at_drain, self.writes = True, True, False, False
-        self.drained_at, self.begun = None, time.monotonic()
+        self.drained_at, self.asked_before, self.begun = None, 0, time.monotonic()
         folder.mkdir(0o700)
         os.mkfifo(folder / "commands", 0o600)
         for path in (folder, folder / "commands"):
@@ -60,7 +60,8 @@ class StandIn(threading.Thread):
             self.reads = False
             return None
         if command == "drain":
-            self.mode, self.drained_at = "draining" if self.queued + self.outstanding else "done", time.monotonic()
+            self.mode, self.asked_before = "draining" if self.queued + self.outstanding else "done", self.asked
+            self.drained_at = time.monotonic()
             return "drain: 0 7" if self.answers_drain else None
         return "unknown"
 

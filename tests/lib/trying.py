@@ -8,6 +8,7 @@ import tempfile
 import traceback
 
 from tests.lib.always import told_always
+from tests.lib.mutants import by_test
 
 # Of a bound of time the best of so many tries counts, since a machine may have much else to do.
 TRIES = 5
@@ -58,10 +59,14 @@ def try_each(tests, fault_on):
     """Tells of each test that has a fault or is left out, counts the others, and ends the script."""
     words = []
     for test in tests:
+        began = by_test.begin(test.__name__)
         word, text = outcome(test, fault_on)
+        by_test.end(test.__name__, began, word)
         words.append(word)
         if word != "passed":
             print(f"{word}: {test.__name__}: {text}", flush=True)
+        if by_test.is_enough(word):
+            break
     conclude(words.count("passed"), words.count("failed"))
 
 
@@ -87,11 +92,11 @@ def is_asked(word):
 
 
 def chosen(tests, usage):
-    """The program that the script is given, and the tests that it is given the names of behind it, or all."""
+    """The program that the script is given, and the tests that it is given the names of behind it, in that order, or all."""
     if len(sys.argv) < 2:
         sys.exit(usage)
-    names = sys.argv[2:]
-    return pathlib.Path(sys.argv[1]).resolve(), [test for test in tests if not names or test.__name__ in names]
+    named = [test for name in sys.argv[2:] for test in tests if test.__name__ == name]
+    return pathlib.Path(sys.argv[1]).resolve(), named if sys.argv[2:] else tests
 
 
 def try_named(tests, stage_of, usage):
@@ -153,6 +158,7 @@ class Trial:
         self.failed += not is_right
         if not is_right:
             print(f"not so: {what}" if found is None else f"not so: {what}: {found}", flush=True)
+            need(not by_test.is_enough("failed"), "one failure is enough")
 
     def compare(self, what, found, wanted):
         """The same of what has to be what is wanted."""

@@ -25,8 +25,10 @@ BUFFERS = tuple(2 * min(1 << 20, int(pathlib.Path("/proc/sys/net/core", name).re
 
 
 def bound(address=HERE, port=0, patience=PATIENCE):
-    """A UDP socket that waits so many seconds for a datagram, which has to be a packet."""
+    """A UDP socket that waits so many seconds for a datagram, which has to be a packet. It has room for what comes while a busy machine does
+    something else."""
     made = Ear(socket.AF_INET, socket.SOCK_DGRAM)
+    made.setsockopt(socket.SOL_SOCKET, socket.SO_RCVBUF, 1 << 20)
     made.bind((address, port))
     made.settimeout(patience)
     return made
@@ -95,6 +97,51 @@ def until(text, test, patience=PATIENCE, apart=APART):
     if not found:
         raise AssertionError(f"never: {text}")
     return found
+
+
+def stalled(process):
+    """For how many seconds this thread and the threads of a process have waited for a processor so far, of Linux' /proc."""
+    found = 0
+    for task in (pathlib.Path("/proc/thread-self"), *pathlib.Path(f"/proc/{process}/task").glob("*")):
+        # A thread may end meanwhile.
+        with contextlib.suppress(OSError):
+            found += int((task / "schedstat").read_text().split()[1])
+    return found / 1e9
+
+
+def fair_clock(process):
+    """A clock that stands still while this script or a process waits for a processor, since a busy machine is no fault of the program."""
+    return time.monotonic() - stalled(process)
+
+
+def spent_by(process):
+    """How many seconds each thread of a process has worked or waited for a processor so far, by its number, of Linux' /proc."""
+    found = {}
+    for task in pathlib.Path(f"/proc/{process}/task").glob("*"):
+        # A thread may end meanwhile.
+        with contextlib.suppress(OSError, IndexError):
+            worked, waited = map(int, (task / "schedstat").read_text().split()[:2])
+            found[task.name] = (worked + waited) / 1e9
+    return found
+
+
+def idle_until_end(process, others=(), patience=3 * PATIENCE):
+    """For how many seconds a process, which is about to end, did nothing until then, though it might: those that passed, without those in
+    which threads of it, or of others, worked or waited for a processor, of which Linux tells once they had one. So neither a slow program nor
+    a busy machine makes it longer."""
+    def spent_by_all():
+        return {thread: seconds for each in (process.pid, *others) for thread, seconds in spent_by(each).items()}
+
+    began, before, idle = time.monotonic(), spent_by_all(), 0.0
+    last = began + patience
+    while process.poll() is None and time.monotonic() < last:
+        time.sleep(APART)
+        now, spent = time.monotonic(), spent_by_all()
+        idle = max(idle + now - began - sum(seconds - before.get(thread, 0.0) for thread, seconds in spent.items()), 0.0)
+        began, before = now, spent
+    if process.poll() is None:
+        raise AssertionError(f"it has not ended in {patience} seconds")
+    return idle
 
 
 def buffers_of(process):

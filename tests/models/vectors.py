@@ -53,17 +53,16 @@ def of_ledgers():
 def made():
     """What the tests of each crate expect, by the names that it has there."""
     return {
-        "library_tests": {**of_lanes(), **of_services(), **of_ledgers()},
-        "spool_files": segments.of_segments(),
+        "library_tests": {**of_lanes(), **of_services(), **of_ledgers(), **segments.of_segments()},
     }
 
 
-ARRAY = re.compile(r"const (\w+): \[u8; \d+\] = \[((?:\s*0x[0-9a-f]{2},?)+)\s*\];")
+ARRAY = re.compile(r"const (\w+): (?:\[u8; \d+\] = |&\[u8\] = &)\[((?:\s*0x[0-9a-f]{2},?)+)\s*\];")
 LINES = re.compile(r'const (\w+): &\[&str\] = &\[((?:\s+r#"\{"type":.*"#,)+)\s*\];')
 
 
 def as_written(name, octets):
-    """Lines or an array as a test has it, the array with sixteen octets to a line."""
+    """Lines or an array as a test has it, the array with sixteen octets to a line; a test may have a slice in its place."""
     if isinstance(octets, list):
         rows = "".join(f'    r#"{line}"#,\n' for line in octets)
         return f"const {name}: &[&str] = &[\n{rows}];"

@@ -9,7 +9,7 @@ rules of docs/protocol.md. Meanwhile a request of a listed realm is answered, an
 """
 import time
 
-from tests.lib import SECRET, Home, Proxy, answer, bound, free_ports, hope, is_so, request, try_in_folders, user_name
+from tests.lib import SECRET, Home, Proxy, answer, bound, free_ports, hope, is_so, request, try_in_folders, until, user_name
 
 # The greatest Length of a request that is forwarded, and the octets of the Proxy-State that it gets.
 GREATEST, STATE = 4084, 12
@@ -84,10 +84,12 @@ def ends_when_it_is_too_long(program, folder):
         hope("accepted", both.came_to_rest(longest), longest)
         hope("by both in turn", both.counts("accepted_total"), [169, 168])
         hope("sent", (sum(both.counts("sent_total")), sum(both.counts("resent_total"))), (longest, 0))
-        hope("the refusals", [line["reason"] for proxy in both.two for line in proxy.lines("refused")], ["TooLong"])
+        refused = until("a refusal is told", lambda: [line for proxy in both.two for line in proxy.lines("refused")])
+        hope("the refusals", [line["reason"] for line in refused], ["TooLong"])
         hope("marked", both.counts("marked_total"), [168, 169])
         hope("a listed realm is answered", [both.is_answered(proxy) for proxy in both.two], [True, True])
-        hope("the first line of both", [proxy.lines("marked")[0]["level"] for proxy in both.two], ["warn", "warn"])
+        marked = [until("a loop is told", lambda: proxy.lines("marked")) for proxy in both.two]
+        hope("the first line of both", [lines[0]["level"] for lines in marked], ["warn", "warn"])
 
 
 def fills_both_windows(program, folder):

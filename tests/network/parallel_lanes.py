@@ -34,6 +34,7 @@ from dataclasses import dataclass
 from tests.lib import (CLASS, HERE, NAS_SECRET, NOTHING_LEFT, SECRET, Home, Proxy, Refuser, Server, Stage, answer, answered, attribute, best,
                        bound, built, configured, flooded, free_port, hope, is_so, loads, read, request, request_of_nas, status, try_in_folders,
                        until, user_name)
+from tests.lib.waiting import stalled
 
 REQUESTS = 60_000
 OUT = 64
@@ -49,12 +50,16 @@ SOON = 0.2
 ROOM, KEPT, OLD, OTHER = 20, 64, 2, "127.0.0.2"
 # How many responses are kept in all, and clients that have to get more than that.
 ALL, MANY = 2048, 40
+# How many times as slowly the clock of a program goes that has all of it at once, in each try, and that of one with a slow interface.
+SLOWER, SLOWED = (1, 1, 4, 16, 16), 4
 # A burst that a receive buffer has room for, of which a datagram takes less than 1,000 octets, and the least and the largest ring for it.
 BUFFER = min(1 << 20, int(pathlib.Path("/proc/sys/net/core/rmem_max").read_text()))
 BURST, SMALL, LARGEST = min(2000, 2 * BUFFER // 1000), 16, 4096
 # How many requests a cut removes, after which span, and how much longer than else a client of another lane may wait beside it, in
 # seconds.
 CUT, SPAN, LONGER = 130_000, 2000, 0.06
+# Which share of a burst the threads of the program wait for a processor at least where the machine is busy.
+BUSY = 0.5
 # How many responses the front takes in one turn, and with how many it begins to send.
 TAKEN, TOGETHER = 11, 9
 STATE = re.compile(r"lane (\d) h\1 up open accepted (\d+) queued 0 outstanding 0 answered \2 opening \d+")
@@ -104,10 +109,10 @@ def longest_wait(proxy, nas, seconds, numbers):
     while time.monotonic() < end:
         number = next(numbers)
         octets = request(number % 256, user_name(f"user{number}@r01.bench".encode()), NAS_SECRET)
-        begun = time.monotonic()
+        begun = proxy.clock()
         nas.sendto(octets, proxy.listen)
         hope("the answer's identifier", nas.recv(4096)[1], number % 256)
-        longest = max(longest, time.monotonic() - begun)
+        longest = max(longest, proxy.clock() - begun)
         time.sleep(0.001)
     return longest
 
@@ -127,7 +132,7 @@ def cut_beside_another_lane(program, work):
 
         def waits():
             """How many requests a cut removes, and the longest waits without it and beside it."""
-            nas.ask(OUT, CUT - 10, PATIENCE)
+            nas.ask(OUT, CUT - 10, 10 * PATIENCE)
             apart, before = longest_wait(proxy, other, 1.5 * SPAN / 1000, numbers), proxy.opening()
             with ThreadPoolExecutor(1) as pool:
                 waiting = pool.submit(longest_wait, proxy, other, 2, numbers)
@@ -243,11 +248,11 @@ class Ringed:
             nas.sendto(octets, self.proxy.listen)
 
     def trip(self, nas, octets):
-        """How long it takes until a datagram is answered."""
-        begun = time.monotonic()
+        """How long it takes until a datagram is answered, but for what a busy machine takes."""
+        begun = self.proxy.clock()
         nas.sendto(octets, self.proxy.listen)
         hope("the answer", nas.recv(4096), answer(octets, octets[1], b"", SECRET))
-        return time.monotonic() - begun
+        return self.proxy.clock() - begun
 
     def are_sent_once(self, count, lane=0):
         """Sees that a home server got so many requests, each once."""
@@ -267,10 +272,10 @@ def pass_one_place(program, work):
 
         def once():
             requests = ringed.requests(CROWD)
-            begun = time.monotonic()
+            begun = ringed.proxy.clock()
             ringed.ask(nas, requests)
             told_in_order(nas, requests)
-            return time.monotonic() - begun
+            return ringed.proxy.clock() - begun
 
         tries = itertools.count(1)
         best(lambda: (next(tries), once()), lambda seen: seen[1] < CROWD * 0.005)
@@ -370,12 +375,15 @@ class BurstProxy(loads.Loaded):
 
 
 def burst(program, work, ring):
-    """How long a burst takes with such a ring, and the median of its requests, in milliseconds."""
+    """How long a burst takes with such a ring, and the median of its requests, in milliseconds; and which share of that time the program's
+    threads waited for a processor, all together."""
     load = Bursting("a burst", 8 * BURST, 0, [BURST], ring)
     with loads.serving(program, work, load, None, BurstProxy) as (proxy, _):
         words = {"port": proxy.listen[1], "secret": NAS_SECRET.decode(), "window": BURST, "count": BURST, "seconds": 30, "sockets": 64}
         words["timeout"] = 20_000
+        before = stalled(proxy.ran.pid)
         told = json.loads(subprocess.run(loads.generator(work, **words), check=True, capture_output=True).stdout)
+        told["stalled"] = (stalled(proxy.ran.pid) - before) / told["seconds"]
         lost, _ = proxy.dropped()
         proxy.end_well()
         hope("datagrams lost at `listen` and at the ring", (lost, proxy.dropped()[1]), (0, 0))
@@ -384,25 +392,33 @@ def burst(program, work, ring):
 
 
 def take_no_longer(program, work):
-    """A burst through a small ring takes at most half as long again as through the largest one, and its median too."""
+    """A burst through a small ring takes at most half as long again as through the largest one, and its median too; on a busy machine, where
+    each wake waits for a processor, at most twice as long."""
     loads.build(work)
 
     def ratios():
         small, largest = burst(program, work, SMALL), burst(program, work, LARGEST)
-        return small["seconds"] / largest["seconds"], small["p50_us"] / largest["p50_us"]
+        return small["seconds"] / largest["seconds"], small["p50_us"] / largest["p50_us"], small["stalled"]
 
-    best(ratios, lambda seen: max(seen) <= 1.5)
+    best(ratios, lambda seen: max(seen[:2]) <= (2 if seen[2] > BUSY else 1.5))
+
+
+def slowed(work, slow):
+    """The variables of a program whose clock goes so many times as slowly, and so that of its interface."""
+    return {"LD_PRELOAD": ":".join(built(work, name) for name in ("full_send_buffer", "wrong_clock")), "CLOCK_SLOW": str(slow)}
 
 
 class Narrow(Ringed):
-    """The program, with two NASes, of which one is behind a slow interface: it takes so many milliseconds for each datagram."""
+    """The program, with two NASes, of which one is behind a slow interface: it takes so many milliseconds for each datagram. The clock of both
+    goes so many times as slowly, so that a busy machine is quick enough for them."""
 
     CLIENT = f'[[client]]\naddress = "{OTHER}"\nsecret = "{SECRET.decode()}"\n'
 
-    def __init__(self, program, work, milliseconds, linger=0, **more):
+    def __init__(self, program, work, milliseconds, linger=0, slow=1, **more):
         self.slow, self.quick = bound(), bound(OTHER)
         port = str(self.slow.getsockname()[1])
         variables = {"NARROW_FIRST": port, "NARROW_LAST": port, "NARROW_ROOM": str(ROOM), "NARROW_MILLISECONDS": str(milliseconds), **more}
+        variables |= slowed(work, slow)
         super().__init__(program, work, f"window = 254\nqueue = 2000\n{self.CLIENT}", linger=linger, variables=variables)
 
     def __exit__(self, *words):
@@ -438,7 +454,7 @@ class Narrow(Ringed):
 def pass_a_slow_interface(program, work):
     """While the responses of a slow NAS fill the send buffer, another NAS is answered at once. The slow one gets the first of its
     responses, and the last as many as are kept, in order. The others are lost and counted."""
-    with Narrow(program, work, 20, linger=20_000) as narrow:
+    with Narrow(program, work, 20, linger=20_000, slow=SLOWED) as narrow:
         responses = narrow.fill(300)
         trips = sorted(narrow.trip(narrow.quick, narrow.requests(1)[0]) for _ in range(50))
         told = narrow.rest(0.5)
@@ -452,11 +468,11 @@ def pass_a_slow_interface(program, work):
 
 def keep_no_longer(program, work):
     """What the system does not accept for two seconds is lost, and what is left at the end after one more try. All is counted."""
-    with Narrow(program, work, 100, linger=20_000) as narrow:
+    with Narrow(program, work, 100, linger=20_000, slow=SLOWED) as narrow:
         begun = time.monotonic()
         responses = narrow.fill(ROOM + KEPT)
-        told = narrow.rest(1)
-        took = time.monotonic() - begun - 1
+        told = narrow.rest(SLOWED)
+        took = (time.monotonic() - begun) / SLOWED - 1
         hope(f"until when it comes: {took}", OLD - 0.5 < took < OLD + 1, True)
         hope("what comes", told, [each for each in responses if each in set(told)])
         hope(f"how much of it: {len(told)}", ROOM + 10 * OLD - 5 <= len(told) < ROOM + KEPT - 10, True)
@@ -491,12 +507,14 @@ def count_what_is_refused_later(program, work):
 
 
 class Crowded(Ringed):
-    """The program, with many NASes behind an interface that takes nothing at first, and everything after some milliseconds."""
+    """The program, with many NASes behind an interface that takes nothing at first, and everything after some milliseconds. Its clock goes so
+    many times as slowly, on a machine that is too busy for what comes in these milliseconds."""
 
-    def __init__(self, program, work):
+    def __init__(self, program, work, slow):
         self.nases = [bound(f"127.0.1.{number}", 0, 0) for number in range(1, MANY + 1)]
         clients = "".join(f'[[client]]\naddress = "{nas.getsockname()[0]}"\nsecret = "{SECRET.decode()}"\n' for nas in self.nases)
         variables = {"NARROW_FIRST": "1", "NARROW_LAST": "65535", "NARROW_ROOM": "1", "NARROW_MILLISECONDS": "60000", "WIDE_AFTER": "1500"}
+        variables |= slowed(work, slow)
         super().__init__(program, work, f"window = 254\nqueue = 5000\n{clients}", linger=20_000, variables=variables)
 
     def have_come(self, count):
@@ -511,15 +529,18 @@ class Crowded(Ringed):
 def keep_so_many_in_all(program, work):
     """Of what many NASes have to get, 2,048 responses are kept in all: as many for each, its last ones, which it gets in order."""
 
+    slower = iter(SLOWER)
+
     def shares():
-        with Crowded(program, work) as crowded:
+        slow = next(slower)
+        with Crowded(program, work, slow) as crowded:
             asked = [crowded.requests(KEPT) for _ in crowded.nases]
             for together in zip(*asked):
                 for nas, octets in zip(crowded.nases, together):
                     nas.sendto(octets, crowded.proxy.listen)
                 time.sleep(0.005)
             told = []
-            time.sleep(2.5)
+            time.sleep(2.5 * slow)
             for nas, requests in zip(crowded.nases, asked):
                 told.append([])
                 while octets := rest_of(nas):
@@ -539,14 +560,17 @@ def lose_their_own_at_a_tie(program, work):
     counts = [1, KEPT - 2, KEPT - 1, *[KEPT - 2] * (ALL // (KEPT - 2) - 2)]
     counts.append(ALL + 1 - sum(counts))
 
+    slower = iter(SLOWER)
+
     def others():
-        with Crowded(program, work) as crowded:
+        slow = next(slower)
+        with Crowded(program, work, slow) as crowded:
             asked, last = [crowded.requests(count) for count in counts], crowded.requests(1)
             for place, (nas, octets) in enumerate(zip(crowded.nases, asked)):
                 crowded.ask(nas, octets)
                 crowded.have_come(sum(counts[:place + 1]))
             crowded.ask(crowded.nases[1], last)
-            time.sleep(OLD)
+            time.sleep(OLD * slow)
             asked[1] = asked[1][1:] + last
             wanted = [[answer(octets, octets[1], b"", SECRET) for octets in requests] for requests in asked]
             found = [list(iter(lambda: rest_of(nas), None)) for nas in crowded.nases[:len(counts)]]

@@ -93,6 +93,10 @@ class Trial(Proxy):
         self.listens()
         return ports_of(self.ran)
 
+    def told(self, count):
+        """The lines of the log, once it has so many."""
+        return until("it is told", lambda: len(lines := self.log.read_text().splitlines()) >= count and lines)
+
     def forwards(self):
         """A request for each home server comes there from a port of the program, and is answered."""
         ports = ports_of(self.ran)
@@ -137,7 +141,7 @@ def test_all_of_the_range_is_held(program, folder):
             free_of([port])
             need(port < FIRST, port)
             trial.forwards()
-            (line,) = trial.log.read_text().splitlines()
+            (line,) = trial.told(1)
             need(re.fullmatch(r"level=info event=source-ports home=h0 tried=[1-9]\d*", line), line)
 
 
@@ -150,7 +154,7 @@ def test_several_lanes(program, folder):
         free_of(ports)
         need(max(ports) < FIRST, ports)
         trial.forwards()
-        told = [re.fullmatch(r"level=info event=source-ports home=(h\d) tried=(\d+)", line) for line in trial.log.read_text().splitlines()]
+        told = [re.fullmatch(r"level=info event=source-ports home=(h\d) tried=(\d+)", line) for line in trial.told(3)]
         hope("the lanes that are told", [line and line[1] for line in told], ["h0", "h1", "h2"])
         need(all(int(line[2]) >= 4 for line in told), told)
 
@@ -287,7 +291,7 @@ def test_some_pinned_ones_are_held(program, folder):
     with held([20_001, 20_004]), Trial(program, folder, lanes=3, ports=2) as trial:
         hope("the ports", trial.begin(RAD_PROXY_SOURCE_PORTS="20000-20007"), [20_000, 20_002, 20_003, 20_005, 20_006, 20_007])
         lines = [f"level=info event=source-ports home=h{lane} tried=3" for lane in (0, 1)]
-        hope("what is told", trial.log.read_text().splitlines(), lines)
+        hope("what is told", trial.told(2), lines)
 
 
 def test_too_many_pinned_ones_are_held(program, folder):

@@ -271,15 +271,15 @@ def it_begins_within_a_second(program, folder):
     with Tracing(program, folder) as tracing:
 
         def seconds():
-            begun = time.monotonic()
+            begun = tracing.stage.proxy.clock()
             before = len(tracing.told())
             tracing.name(b"session S1\n")
             need(is_so(lambda: len(tracing.told()) > before), "it is not told")
-            named = time.monotonic() - begun
-            begun = time.monotonic()
+            named = tracing.stage.proxy.clock() - begun
+            begun = tracing.stage.proxy.clock()
             tracing.file.unlink()
             tracing.await_told("level=info event=trace count=0")
-            return max(named, time.monotonic() - begun)
+            return max(named, tracing.stage.proxy.clock() - begun)
 
         best(seconds, lambda passed: passed < 1.2)
 
@@ -398,11 +398,13 @@ def at_its_own_level_no_line_is_left_out(program, folder):
     with Tracing(program, folder, level="trace", limits="first_wait = 60000\n") as tracing:
         tracing.name(f"client {HERE}\n".encode(), "level=info event=trace count=1")
         load = Load(tracing)
-        for _ in range(15):
+
+        def is_enough():
             load.run(0.02)
-            time.sleep(0.05)
+            return load.sent > MOST // LINES * 4 and load.most() > MOST
+
+        need(is_so(is_enough, apart=0.05), "too few were sent:", load.sent, load.most())
         need(is_so(lambda: load.count() + load.dropped() == LINES * load.sent), "lines", load.count(), "of", LINES * load.sent)
-        need(load.sent > MOST // LINES * 4, "too few were sent:", load.sent)
         tracing.stage.ends()
         hope("left out", load.left_out(), [])
 

@@ -4,7 +4,8 @@
  * Counts how often the program that it is loaded into (LD_PRELOAD) calls the system. The file WAKES_FILE has as machine's numbers of 64
  * bits: the receives, the wakes of a worker by another one, which write 8 octets, the sends of a thread that received no datagram since
  * its last send, the datagrams received, the sends, the most datagrams that a thread received from one send to the next, and of the waits
- * that end without an event how many end in each millisecond of twenty. Each receive that finds a datagram takes RECEIVE_MILLISECONDS.
+ * that end without an event how many are to end in each millisecond of twenty: a busy machine lets them end later. Each receive that
+ * finds a datagram takes RECEIVE_MILLISECONDS.
  */
 #define _GNU_SOURCE
 #include <dlfcn.h>
@@ -92,11 +93,11 @@ ssize_t write(int file, const void *octets, size_t size)
 int epoll_wait(int poll, struct epoll_event *events, int room, int milliseconds)
 {
     int (*await)(int, struct epoll_event *, int, int) = dlsym(RTLD_NEXT, "epoll_wait");
+    struct timespec now;
+    clock_gettime(CLOCK_MONOTONIC, &now);
     int count = await(poll, events, room, milliseconds);
     if (count == 0) {
-        struct timespec now;
-        clock_gettime(CLOCK_MONOTONIC, &now);
-        atomic_fetch_add(&kept->ends[now.tv_nsec / 1000000 % APART], 1);
+        atomic_fetch_add(&kept->ends[(now.tv_nsec / 1000000 + milliseconds) % APART], 1);
     }
     return count;
 }

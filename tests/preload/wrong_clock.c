@@ -4,7 +4,8 @@
  * Has the clock of the program that it is loaded into (LD_PRELOAD) fail, after CLOCK_CALLS calls that do not. Or one call of its first thread
  * fails, the next one once the file CLOCK_FAILS is there, which it takes away; or all fail while the file CLOCK_OUT is there. The time of day is
  * CLOCK_AHEAD seconds later, or as many as the file CLOCK_FILE says at that moment, or always CLOCK_AT milliseconds after 1970. The
- * clock that never goes back is ahead by the milliseconds that the file CLOCK_MOVED says.
+ * clock that never goes back is ahead by the milliseconds that the file CLOCK_MOVED says, or goes CLOCK_SLOW times as slowly from its first
+ * call on.
  */
 #define _GNU_SOURCE
 #include <errno.h>
@@ -49,6 +50,19 @@ static void move_on(struct timespec *moment)
     moment->tv_nsec %= 1000000000;
 }
 
+static void slow_down(struct timespec *moment)
+{
+    static atomic_llong first;
+    const char *slow = getenv("CLOCK_SLOW");
+    long long now = moment->tv_sec * 1000000000LL + moment->tv_nsec, none = 0;
+    if (slow) {
+        atomic_compare_exchange_strong(&first, &none, now);
+        now = atomic_load(&first) + (now - atomic_load(&first)) / strtol(slow, NULL, 10);
+        moment->tv_sec = now / 1000000000;
+        moment->tv_nsec = now % 1000000000;
+    }
+}
+
 int clock_gettime(clockid_t clock, struct timespec *moment)
 {
     const char *text = getenv("CLOCK_CALLS"), *fails = getenv("CLOCK_FAILS");
@@ -63,6 +77,7 @@ int clock_gettime(clockid_t clock, struct timespec *moment)
         set_day(moment);
     } else if (clock == CLOCK_MONOTONIC) {
         move_on(moment);
+        slow_down(moment);
     }
     return status;
 }

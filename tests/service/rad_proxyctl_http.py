@@ -18,11 +18,11 @@ import threading
 import time
 from concurrent.futures import ThreadPoolExecutor
 
-from tests.lib import HERE, TOP, heed_signals, hope, need, try_named, until
+from tests.lib import HERE, PATIENCE, TOP, heed_signals, hope, need, try_named, until
 from tests.lib.stand_ins import TEXT, Asking
 
-# Prometheus' own time-out of a scrape.
-SCRAPE_SECONDS = 10
+# Prometheus' own time-out of a scrape. On a busy machine a scrape takes at most so many times as long as the first one, which is alone.
+SCRAPE_SECONDS, TIMES = 10, 10
 GET = b"GET /metrics HTTP/1.1\r\nHost: here\r\n\r\n"
 # The most that a process of the answers may keep.
 MOST_KEPT = 64 * 2**20
@@ -76,10 +76,10 @@ class Scraped(Asking):
         self.one = self.stand_in()
         self.one.writes = True
         until("counters", (self.one.folder / "counters").exists)
-        self.systemd = Systemd(self, self.one)
+        self.systemd, self.most = Systemd(self, self.one), None
 
     def connect(self):
-        return socket.create_connection((HERE, self.systemd.port), timeout=SCRAPE_SECONDS)
+        return socket.create_connection((HERE, self.systemd.port), timeout=3 * PATIENCE)
 
     def had(self, octets=GET, is_closed=False):
         """The response to what is sent, as text, and the seconds to its end."""
@@ -100,7 +100,8 @@ class Scraped(Asking):
         hope(f"{told}: first line", head.splitlines()[:1], ["HTTP/1.1 200 OK"])
         hope(f"{told}: length", int(re.search(r"Content-Length: (\d+)", head)[1]), len(body))
         need('rad_proxy_home_up{lane="0",home="h1"} 1' in body, "no metrics:", body[:200])
-        need(seconds < SCRAPE_SECONDS, told, "seconds:", seconds)
+        self.most = self.most or max(SCRAPE_SECONDS, TIMES * seconds)
+        need(seconds < self.most, told, "seconds:", seconds)
         return seconds
 
     def stop(self):
@@ -126,13 +127,13 @@ def who_says_nothing_costs_a_second(stage):
     """A client that says nothing, or an octet now and then, is answered after a second; meanwhile others are answered."""
     stage.see_scraped()
     text, seconds = stage.had(b"GET /")
-    hope("who says nothing more", (text.partition("\r\n\r\n")[2], 0.9 < seconds < 5), ("no request of HTTP in 1 second\n", True))
+    hope(f"who says nothing more: {seconds}", (text.partition("\r\n\r\n")[2], 0.9 < seconds < stage.most / 2), ("no request of HTTP in 1 second\n", True))
     with stage.connect() as slow:
         begun = time.monotonic()
         with contextlib.suppress(OSError):
-            while time.monotonic() - begun < 8 and not select.select([slow], [], [], 0.2)[0]:
+            while time.monotonic() - begun < stage.most and not select.select([slow], [], [], 0.2)[0]:
                 slow.send(b"X")
-        need(time.monotonic() - begun < 5, "who is slow is answered after", time.monotonic() - begun)
+        need(time.monotonic() - begun < stage.most / 2, "who is slow is answered after", time.monotonic() - begun)
 
 
 def connections_keep_no_scrape_away(stage):
@@ -169,7 +170,7 @@ def connections_keep_no_scrape_away(stage):
         for client in held:
             client.close()
     for other in others:
-        other.join(SCRAPE_SECONDS)
+        other.join(stage.most)
     stage.see_scraped("after them")
     hope("starts", (stage.systemd.starts, stage.systemd.statuses), (1, []))
     need(stage.systemd.kept() < MOST_KEPT, "kept:", stage.systemd.kept())
@@ -188,7 +189,7 @@ def who_takes_no_answer_keeps_no_scrape_away(stage):
             client.sendall(GET)
             held.append(client)
         seconds = stage.see_scraped(f"beside {len(held)} of them")
-        need(seconds < SCRAPE_SECONDS / 2, f"beside {len(held)} of them: {seconds} seconds")
+        need(seconds < stage.most / 2, f"beside {len(held)} of them: {seconds} seconds")
     need(stage.systemd.kept() < MOST_KEPT, "kept:", stage.systemd.kept())
     for client in held:
         client.setsockopt(socket.SOL_SOCKET, socket.SO_LINGER, struct.pack("ii", 1, 0))

@@ -9,9 +9,11 @@ import contextlib
 import fcntl
 import os
 import pathlib
+import shlex
 import shutil
 import signal
 import subprocess
+import threading
 import time
 from concurrent.futures import ThreadPoolExecutor
 
@@ -87,7 +89,12 @@ def stopped_at(stage, number, moment):
 
 
 def stop_at_moments(stage, signals, moments, spread):
-    """Stops a restart by each of the signals in turn: which there are of those that drain or not, and are restarted or not."""
+    """Stops a restart by each of the signals in turn, over some seconds, or as long as one takes on a busy machine: which there are of those
+    that drain or not, and are restarted or not."""
+    one, begun = stage.stand_in("not stopped"), time.monotonic()
+    way, _ = stage.restarting(one)
+    hope("one that is not stopped", stage.ask(one, "restart", "--force", "--out", "1", variables=way)[0], 0)
+    spread = max(spread, 1.2 * (time.monotonic() - begun))
     moments = [(signals[at % len(signals)], spread * at / moments) for at in range(moments)]
     with ThreadPoolExecutor(AT_ONCE) as pool:
         return set(pool.map(lambda pair: stopped_at(stage, *pair), moments))
@@ -183,9 +190,8 @@ def the_look_at_the_rate_ends_once_it_suffices(stage):
     one.queued, one.outstanding, one.rate = 300, 33, 333
     way, calls = stage.restarting(one)
     asker = stage.begin(one, "restart", variables=way)
-    begun = time.monotonic()
-    until("it is drained", lambda: one.drained_at is not None, 30)
-    need(one.drained_at - begun < 8, "it looked for", one.drained_at - begun, "seconds")
+    until("it is drained", lambda: one.drained_at is not None)
+    need(one.asked_before <= 6, "it looked", one.asked_before, "times, a second apart")
     one.queued = one.outstanding = 0
     one.mode = "done"
     hope("how it ends", (asker.communicate(timeout=PATIENCE)[1], asker.returncode, calls.exists()), ("", 0, True))
@@ -357,6 +363,23 @@ def nothing_of_a_query_is_left(stage):
     hope("the next one", stage.ask(one, "state")[0], 0)
 
 
+def numbers_are_of_after_the_answer(stage):
+    """The numbers of `metrics` are those that are written behind the answer of `state`, and not while that is awaited."""
+    one = stage.stand_in()
+    one.write_counters()
+    answer_of = one.answer_of
+
+    def written_beside(command):
+        one.write_counters()
+        threading.Timer(1, one.write_counters).start()
+        return answer_of(command)
+
+    one.answer_of = lambda command: written_beside(command) if command == "state" else answer_of(command)
+    status, out, told = stage.ask(one, "metrics")
+    hope("how it ends", (status, told), (0, ""))
+    hope("the count of the third text", f'\nrad_proxy_accepted_total{{lane="0",home="h1"}} {one.count}\n' in out and one.count, 30)
+
+
 def tables_of(stage, one, **variables):
     """The words of the line of the home server that `top` prints, and those of its first line."""
     status, out, told = stage.ask(one, "top", variables=variables)
@@ -389,6 +412,18 @@ def locales(stage):
     return {"LOCPATH": str(folder)}
 
 
+def each_service_has_its_configuration(stage):
+    """Where no configuration is named, that of the service is checked, and with -i that of the instance."""
+    program, calls = stage.room / "told", stage.room / "told.calls"
+    program.write_text(f"#!/bin/sh\necho \"$*\" >>{shlex.quote(str(calls))}\necho clients 1 homes 1 realms 1\n")
+    program.chmod(0o755)
+    for words, name in ((), "rad_proxy.toml"), (("-i", "two"), "two.toml"):
+        (stage.config.parent / name).write_text("# none\n")
+        calls.unlink(missing_ok=True)
+        subprocess.run([stage.ctl, *words, "check"], env=stage.environment | {"RAD_PROXY_PROGRAM": str(program)}, capture_output=True, timeout=PATIENCE)
+        hope(f"what {words} checks", calls.read_text().splitlines()[0], f"check {stage.config.parent / name}")
+
+
 def what_the_caller_sets_is_not_read(stage):
     """Modules, a home and options of Python that the caller's environment names, and a folder with such names, change nothing."""
     one = stage.stand_in()
@@ -418,8 +453,8 @@ TESTS = [out_is_taken_away_where_it_is_stopped_before_the_drain, no_moment_of_a_
          out_stays_where_the_proxy_may_drain_yet,
          the_look_at_the_rate_ends_once_it_suffices, what_is_outstanding_counts_in_the_rate, nobody_else_keeps_root_from_a_restart,
          who_is_not_root_locks_beside_the_fifos, a_trace_ends_where_the_service_does, no_stop_of_a_trace_leaves_the_file,
-         a_trace_whose_output_nobody_reads_ends, nothing_of_a_query_is_left, top_reads_numbers_in_every_locale,
-         what_the_caller_sets_is_not_read]
+         a_trace_whose_output_nobody_reads_ends, nothing_of_a_query_is_left, numbers_are_of_after_the_answer, top_reads_numbers_in_every_locale,
+         each_service_has_its_configuration, what_the_caller_sets_is_not_read]
 
 
 if __name__ == "__main__":

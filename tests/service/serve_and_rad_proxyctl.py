@@ -7,6 +7,7 @@ Each test is a function below, and its first line tells what holds. Names choose
 root runs this, and else told as left out. The last line is `N passed, M failed`.
 """
 import contextlib
+import fcntl
 import grp
 import json
 import os
@@ -261,9 +262,17 @@ def whatever_the_umask(service):
         hope("status", process.wait(PATIENCE), 0)
 
 
+def busy_seconds(service):
+    """What a busy machine may take beyond a bound: four times as long as an answer to `state` takes now."""
+    began = time.monotonic()
+    service.state_is()
+    return 4 * (time.monotonic() - began)
+
+
 def a_stopped_asker_keeps_nobody_out(service):
     """rad_proxyctl that is stopped, by Ctrl-Z say, while no answer comes: a second one is answered once there are answers."""
     process = service.start()
+    more = busy_seconds(service)
     program = until("program", lambda: [pid for pid, name in service.children(process) if name == "rad_proxy"])[0]
     os.kill(program, signal.SIGSTOP)
     asker = subprocess.Popen([service.ctl, "state"], env=service.environment, stdout=subprocess.PIPE, stderr=subprocess.PIPE,
@@ -273,7 +282,7 @@ def a_stopped_asker_keeps_nobody_out(service):
     os.kill(program, signal.SIGCONT)
     began = time.monotonic()
     service.state_is("a second one")
-    hope("in time", time.monotonic() - began < 10, True)
+    hope("in time", time.monotonic() - began < 10 + more, True)
     os.killpg(asker.pid, signal.SIGCONT)
     hope("the first", asker.wait(PATIENCE) in (0, 4), True)
     service.state_is("a third one")
@@ -282,12 +291,13 @@ def a_stopped_asker_keeps_nobody_out(service):
 def an_asker_without_an_answer_gives_up(service):
     """Where the program is stopped, rad_proxyctl ends with 4 after 5 seconds and says why, and its lock is free then."""
     process = service.start()
+    more = busy_seconds(service)
     program = until("program", lambda: [pid for pid, name in service.children(process) if name == "rad_proxy"])[0]
     os.kill(program, signal.SIGSTOP)
     began = time.monotonic()
     done = service.ask("state")
     hope("it says", (done.returncode, done.stderr), (4, "rad_proxyctl: no answer in 5 seconds\n"))
-    hope("seconds", 4 < time.monotonic() - began < 15, True)
+    hope("seconds", 4 < time.monotonic() - began < 15 + more, True)
     os.kill(program, signal.SIGCONT)
     service.state_is()
 
@@ -366,6 +376,43 @@ def its_output_is_full(service):
     hope("code", service.nas.recv(4096)[0], 5)
     hope("status", process.wait(PATIENCE), 0)
     os.close(reading)
+
+
+def a_reader_that_pauses_again_loses_nothing(service):
+    """Lines that nobody reads for some seconds are given up. Once one goes out again, the next one is waited for as long as before."""
+    reading, writing = os.pipe()
+    fcntl.fcntl(writing, fcntl.F_SETPIPE_SZ, 4096)
+    process = service.start(wait=False, stdout=writing)
+    hope("it listens", os.read(reading, 4096).startswith(b"listening"), True)
+    # The service's own end stays one that blocks.
+    filling = os.open(f"/proc/self/fd/{writing}", os.O_WRONLY | os.O_NONBLOCK)
+    os.close(writing)
+    os.set_blocking(reading, False)
+
+    def says(pause, patience=PATIENCE):
+        """Whether a line comes for a word that is none, where the pipe is full for so long."""
+        with contextlib.suppress(BlockingIOError):
+            while pause:
+                os.write(filling, bytes(4096))
+        subprocess.run(["sh", "-c", "echo nonsense 1<>commands"], cwd=service.run, check=True)
+        time.sleep(pause)
+        return is_so(lambda: b"unknown" in taken(reading), patience)
+
+    hope("a line that is given up", says(8, 1), False)
+    hope("the next one, and one behind a pause", (says(0), says(1.5)), (True, True))
+    process.terminate()
+    hope("status", process.wait(PATIENCE), 0)
+    for end in (reading, filling):
+        os.close(end)
+
+
+def taken(reading):
+    """What there is in a pipe."""
+    octets = b""
+    with contextlib.suppress(BlockingIOError):
+        while part := os.read(reading, 4096):
+            octets += part
+    return octets
 
 
 def nothing_for_others_outlives_the_service(service):
@@ -723,8 +770,10 @@ def http_waits_for_no_client(service):
     began = time.monotonic()
     first, _, text = scraped(service, b"GET /metrics HTTP/1.1\r\n")
     hope("no whole request", (first, text), ("HTTP/1.1 400 Bad Request", "no request of HTTP in 1 second\n"))
-    hope("seconds", 0.9 < time.monotonic() - began < 4, True)
+    waited, began = time.monotonic() - began, time.monotonic()
     first, _, text = scraped(service, b"GET /metrics HTTP/1.1\r\n\r\n")
+    # On a busy machine a whole request takes long too.
+    hope(f"seconds: {waited}", 0.9 < waited < 4 + 4 * (time.monotonic() - began), True)
     hope("no service", (first, text),
          ("HTTP/1.1 503 Service Unavailable", f"no service in {service.run}, or no right to ask it\n"))
 
@@ -878,12 +927,13 @@ def an_answer_that_cannot_be_written_is_told(service):
 def whoever_keeps_the_pipe_is_not_waited_for(service):
     """A process that was left behind while asked, and still has the pipe of the answer, does not keep rad_proxyctl."""
     service.start()
+    more = busy_seconds(service)
     changed(service, "bounds.py", ("\nREAD_SECONDS = 30\n", "\nREAD_SECONDS = 4\n"))
     changed(service, "asking.py", ("    os.umask(0o077)\n", f"    os.umask(0o077)\n    os.spawnlp(os.P_NOWAIT, 'sleep', 'sleep', '{PATIENCE}')\n"))
     begun = time.monotonic()
-    done = service.ask("state", timeout=PATIENCE / 2)
+    done = service.ask("state", timeout=PATIENCE)
     hope("its answer", (done.returncode, done.stdout), (0, NEW_LANE))
-    hope("seconds", 3.5 < time.monotonic() - begun < 15, True)
+    hope("seconds", 3.5 < time.monotonic() - begun < 15 + more, True)
 
 
 def a_service_of_a_stranger(service):
@@ -1196,7 +1246,7 @@ TESTS = [
     a_second_leaves_the_first_alone,
     the_lock_outlives_a_serve_that_was_killed, refuses_a_folder_that_others_write_in, whatever_the_umask,
     a_stopped_asker_keeps_nobody_out, an_asker_without_an_answer_gives_up, many_ask_at_once, what_nobody_asked_goes_to_standard_output,
-    a_hand_over_that_dies_is_started_anew, nobody_reads_its_output, its_output_is_full, what_is_left_over_is_a_warning,
+    a_hand_over_that_dies_is_started_anew, nobody_reads_its_output, its_output_is_full, a_reader_that_pauses_again_loses_nothing, what_is_left_over_is_a_warning,
     counters_elsewhere_are_told, the_ledger_is_where_the_variable_says, counters_that_cannot_be_written_are_told, counters_that_are_not_written_are_told,
     metrics_are_as_prometheus_reads_them, metrics_go_to_a_file,
     top_draws_what_is_there, top_draws_a_table_as_soon_as_its_numbers_are_there, top_of_no_proxy_ends, metrics_of_no_proxy_are_removed, metrics_go_to_no_other_file,

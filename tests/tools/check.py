@@ -297,6 +297,16 @@ def all_in_one_go(program, folder):
         hope(f"{what}, on a terminal", tool.shown("--strict"), lines)
 
 
+def fifty_doubts_are_told_one_by_one(program, folder):
+    """Of the doubts that the program does not tell, the first fifty are told, and how many others there are."""
+    tool = Tool(program, folder)
+    for count in (50, 51):
+        realms = "".join(REALM.replace("example.org", f"r{at}$") for at in range(count))
+        told = [warning("realm-name", f"realm {at} name at line {10 + 3 * at}, column 1: {PATTERN}") for at in range(50)]
+        more = [f"level=warn event=configuration-warnings count={count - 50}"] if count > 50 else []
+        hope(f"{count} doubts", without_numbers(tool.told(WHOLE.replace(REALM, realms), "--strict")[1]), [*told, *more, f"clients 1 homes 1 realms {count}"])
+
+
 # What the numbers carry.
 
 BLOCKS = """\
@@ -375,7 +385,7 @@ def the_numbers_stand_wherever_one_begins(program, folder):
 
 
 TESTS = [what_the_numbers_carry, the_numbers_stand_wherever_one_begins, ports_of_other_services, times_of_a_stop, addresses_of_clients, secrets_that_are_none, names_that_are_no_realms,
-         numbers_that_do_not_fit, all_in_one_go]
+         numbers_that_do_not_fit, all_in_one_go, fifty_doubts_are_told_one_by_one]
 
 
 if __name__ == "__main__":

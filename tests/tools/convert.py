@@ -169,6 +169,8 @@ def calls():
     yield "a directory without its files", call(2, "neither radiusd.conf", "freeradius", "ROOM")
     yield "a name with control characters", call(2, r"a\x0ab\x1b[1m", "radsecproxy", "ROOM/a\nb\x1b[1m")
     yield "a name that is not UTF-8", call(2, r"\xff\xfe", "radsecproxy", b"/none/\xff\xfe")
+    for count, shown in ((200, 200 * "a" + ": No such file"), (201, 200 * "a" + "..: No such file")):
+        yield f"a name of {count} characters", call(2, f"rad_convert: {shown}", "radsecproxy", count * b"a")
     yield "a pipe", prepared(call(2, "no regular file", "radsecproxy", "ROOM/pipe"), lambda room: os.mkfifo(room / "pipe"))
     yield "a huge file", prepared(call(2, "more than 4194304 octets", "radsecproxy", "ROOM/huge"), huge)
     yield "a directory in place of radiusd.conf", prepared(
@@ -201,14 +203,16 @@ def full_disk(program, room):
 
 
 def a_file_is_written(program, room):
-    """A file is written whole, for its owner alone, and nothing beside it."""
-    out = room / "out" / "it.toml"
-    out.parent.mkdir()
-    out.write_text("old")
-    hope("the call", convert("radsecproxy", room / "radsecproxy.conf", "-o", out), (0, b"", []))
-    hope("the mode", oct(out.stat().st_mode & 0o777), "0o600")
-    hope("the folder", os.listdir(out.parent), ["it.toml"])
-    checked(program, out.read_bytes(), room)
+    """A file is written whole, for its owner alone, and nothing beside it, also on another file system than that of temporary files."""
+    with tempfile.TemporaryDirectory(dir="/dev/shm") as other:
+        for folder in (room / "out", pathlib.Path(other, "out")):
+            out = folder / "it.toml"
+            folder.mkdir()
+            out.write_text("old")
+            hope("the call", convert("radsecproxy", room / "radsecproxy.conf", "-o", out), (0, b"", []))
+            hope("the mode", oct(out.stat().st_mode & 0o777), "0o600")
+            hope("the folder", os.listdir(folder), ["it.toml"])
+            checked(program, out.read_bytes(), room)
 
 
 def addresses_are_looked_up(program, room):

@@ -300,6 +300,8 @@ def all_faults_are_told_together(program, folder):
     """One capture with all faults has each of them as often as it was planted. What was open is now unanswered."""
     text = see(Files(folder), {kind: 1 for kind in KINDS} | {"never": 3, "early": 2, "twice": 2}, all_in_one())
     hope("what names the one that was never answered", "session S-is_never_answered realm example.org" in text, True)
+    hope("which others are answered", re.findall("; it answers the request of [0-9:.]+: (.*)", text),
+         ["client 192.0.2.10 port 40000 identifier 1 session S-answers_another_request8 realm example.org", "a record of no NAS"])
 
 
 def all_in_one():

@@ -251,6 +251,21 @@ def paragraphs_have_all(program, folder):
     hope("without a session", ("start of session -, user nobody\n" in out, "this session and status" in out), (True, False))
 
 
+def what_became_of_a_response_is_told(program, folder):
+    """How often a response could not be sent, and was sent again, stands in the paragraph of its own record, from all lines that count it."""
+    stage, ledger = Stage(program, folder), Ledger(folder, 7)
+    for session in (b"S1", b"S2", b"S3"):
+        ledger.add(session)
+    for kind, record, count in (("unsent", 0, 1), ("again", 0, 2), ("again", 1, 3), ("again", 0, 5), ("unsent", 1, 4)):
+        ledger.lines.append({**ledger.made.head(kind), "home": "billing", "lane": 0, "record": record, "count": count})
+    ledger.write()
+    again = "the client repeated its request, and was sent the response again"
+    for session, told in (("S1", ["the response could not be sent 1 time", f"{again} 7 times"]),
+                          ("S2", ["the response could not be sent 4 times", f"{again} 3 times"]), ("S3", [])):
+        out, _ = stage.told(WHOLE, "find", "--session", session, stage.config, ledger.path)
+        hope(session, [line.strip() for line in out.splitlines() if "response" in line], told)
+
+
 def many_records_are_all_told(program, folder):
     """Of so many that their rows come in parts, none is left out, and none is there twice."""
     stage, ledger = Stage(program, folder), Ledger(folder, 7)
@@ -455,6 +470,56 @@ def an_import_is_whole_or_nothing(program, folder):
     refuse(4, first.path, *words)
     refuse(4, folder, *words)
     refuse(4, "/nowhere/it.db", *words)
+
+
+def an_import_replaces_what_was_otherwise(program, folder):
+    """A record that the database has with other words becomes what the ledger says, and is told. Where the ledger is wrong it stays."""
+    stage, (first, _) = Stage(program, folder), two_runs(folder)
+    database = pathlib.Path(folder, "it.db")
+    stage.told(WHOLE, "import", database, stage.config, first.path)
+
+    def users(*statement):
+        with contextlib.closing(sqlite3.connect(database)) as made:
+            made.execute(*statement or ("SELECT 1",))
+            made.commit()
+            return [user for user, in made.execute("SELECT user FROM entries ORDER BY lane, record")]
+
+    right = users()
+    other = users("UPDATE entries SET user = 'other' WHERE lane = 0 AND record = 0")
+    hope("the users before", (right[0], other[0], right[1:]), ("bob@example.org", "other", other[1:]))
+    there = "there otherwise: run b000000000000000 lane 0 record 0"
+    for octets, status, now, told in ((first.octets(), DIFFERS, right, "replaced"),
+                                      (first.octets().replace(b'"record":1', b'"record":9', 1), 5, other, "left, since the ledger is not right")):
+        users("UPDATE entries SET user = 'other' WHERE lane = 0 AND record = 0")
+        lines = stage.told(status, "import", database, stage.config, stage.write("it.jsonl", octets))[0].splitlines()
+        hope("what is told", (f", 1 were there otherwise and are {told}" in lines[0], lines[1:]), (True, [there]))
+        hope("the users", users(), now)
+
+
+def files_of(process):
+    """What a process has open, but for what it closes meanwhile."""
+    found = set()
+    for place in pathlib.Path("/proc", str(process), "fd").iterdir():
+        with contextlib.suppress(OSError):
+            found.add(os.readlink(place))
+    return found
+
+
+def an_import_waits_before_it_reads(program, folder):
+    """While another program writes to the database, an import waits, and has not begun to read: so the other one ends first."""
+    stage, (first, second) = Stage(program, folder), two_runs(folder)
+    database = pathlib.Path(folder, "it.db")
+    stage.told(WHOLE, "import", database, stage.config, first.path)
+    with contextlib.closing(sqlite3.connect(database, timeout=1, isolation_level=None)) as other:
+        other.execute("BEGIN IMMEDIATE")
+        other.execute("UPDATE entries SET port = 1 + port")
+        words = [sys.executable, TOOLS / "rad_ledger", *stage.words("import", database, stage.config, second.path)]
+        with subprocess.Popen(words, stdout=subprocess.PIPE, stderr=subprocess.PIPE) as ran:
+            until("it opens the database", lambda: ran.poll() is not None or str(database) in files_of(ran.pid))
+            time.sleep(0.5)
+            other.execute("COMMIT")
+            out, err = ran.communicate(timeout=60)
+    hope(f"how it ends: {err}", (ran.returncode, out.split(b",")[0]), (stage.whole, b"6 records were added"))
 
 
 def refused(stage, command, status, *words):
@@ -960,7 +1025,10 @@ def it_can_be_stopped(program, folder):
 
 
 def names_are_printed(program, folder):
-    """Control characters, octets that are not UTF-8 and what turns a line's direction: each is found as it is, and by what is printed."""
+    """Control characters, octets that are not UTF-8 and what turns a line's direction: each is found as it is, and by what is printed. What
+    turns a line's direction is the same for the tool and for the auditor."""
+    runs = re.findall(r"\((0x[0-9a-f]+), (0x[0-9a-f]+)\)", (TOP / "crates/rad_audit/src/shown.rt").read_text())
+    hope("format characters", importlib.import_module("ledger.rows").FORMAT_RUNS, tuple(tuple(int(it, 16) for it in run) for run in runs))
     stage, ledger = Stage(program, folder), Ledger(folder, 7, "na\nme\u202e\x1b.jsonl")
     for name in ODD:
         ledger.add(name, user=name + b"@example.org")
@@ -1043,8 +1111,9 @@ def write_long(path, octets):
     return b"%08x-%06d" % (count // 6, count // 6 % 10**6), count
 
 
-TESTS = [records_are_found, paragraphs_have_all, many_records_are_all_told, each_form_is_read, the_verdict_is_the_auditors,
-         sums_are_right, tables_are_right, no_text_of_a_table_is_a_formula, volumes_of_64_bits_are_kept, an_import_is_whole_or_nothing, errors_are_one_line,
+TESTS = [records_are_found, paragraphs_have_all, what_became_of_a_response_is_told, many_records_are_all_told, each_form_is_read, the_verdict_is_the_auditors,
+         sums_are_right, tables_are_right, no_text_of_a_table_is_a_formula, volumes_of_64_bits_are_kept, an_import_is_whole_or_nothing, an_import_replaces_what_was_otherwise, an_import_waits_before_it_reads,
+         errors_are_one_line,
          details_are_compared, a_comparison_takes_bounded_memory, freeradius_writes_details, cut_anywhere_it_is_right_or_refused, spoiled_anywhere_it_ends_in_words,
          what_was_left_is_told, one_home_servers_records_are_handed_out, what_is_handed_out_is_its_owners_alone,
          what_is_handed_out_goes_to_a_file_system_of_its_own, nothing_turns_a_terminal,

@@ -11,12 +11,17 @@ import json
 import random
 import shutil
 import subprocess
+import sys
 import threading
 import time
 from datetime import datetime, timedelta, timezone
 
 from tests.lib import (HERE, TOP, LeftOut, Server, Stage, answer, attribute, bound, configured, hope, mark, need, request, try_in_folders,
                        until, user_name)
+
+# The modules of the tools find those beside them.
+sys.path.insert(0, str(TOP / "tools"))
+from tools.resending import Left  # noqa: E402
 
 SECRET, HOME_SECRET = b"nas-secret", "home-secret"
 TOOL = TOP / "tools" / "rad_resend"
@@ -139,8 +144,18 @@ def a_delay_counts_from_the_acceptance(_, folder):
         hope("kept", kept, ["Attr-41 = 0x00000000", "Attr-41 = 0x00000007", "Attr-41 = 0xfffffffb"])
 
 
+def a_delay_has_the_seconds_that_are_over(_, folder):
+    """A second counts once it is over, by the milliseconds of the acceptance."""
+    room, midnight = Room(folder), datetime(2026, 1, 31, tzinfo=timezone.utc).timestamp()
+    room.leave(START, accepted="2026-01-31T00:00:00.250Z")
+    left = Left.read(json.loads(room.ledger.read_text()), "")
+    found = [int.from_bytes(left.delayed(midnight + now)[-1][1], "big") for now in (0.7, 100.2, 100.3)]
+    hope("the delays", found, [0, 99, 100])
+
+
 def what_was_answered_since_is_left_out(_, folder):
-    """A record that a NAS sent again and that was answered is left out, also under another Acct-Delay-Time, but not of another client."""
+    """A record that a NAS sent again and that was answered is left out, also under another Acct-Delay-Time, but not of another client, nor
+    with its attributes in another order."""
     room = Room(folder)
     first, second, third = (START + attribute(44, name) for name in (b"a", b"b", b"c"))
     for one in (first, second + attribute(DELAY, bytes(4)), third):
@@ -149,6 +164,7 @@ def what_was_answered_since_is_left_out(_, folder):
     room.answer(second + attribute(DELAY, bytes([0, 0, 0, 9])))
     room.answer(third, client="192.0.2.7")
     room.answer(third + attribute(25, b"more"))
+    room.answer(attribute(44, b"c") + START)
     done = room.ask()
     hope("printed", [line for line in done.stdout.splitlines() if "#" in line], ["# h1 3 queued"])
     need("answered since: 2; printed: 1" in done.stderr, done.stderr)
@@ -284,7 +300,7 @@ def many_are_printed_in_time(_, folder):
 
 
 TESTS = [
-    queued_ones_are_printed, radclient_sends_what_came, a_delay_counts_from_the_acceptance, what_was_answered_since_is_left_out,
+    queued_ones_are_printed, radclient_sends_what_came, a_delay_counts_from_the_acceptance, a_delay_has_the_seconds_that_are_over, what_was_answered_since_is_left_out,
     a_record_left_twice_is_printed_once, what_radclient_would_change_is_told, one_home_server_at_a_time, what_is_wrong_is_told,
     a_line_is_named_whatever_is_wrong, many_are_printed_in_time, what_a_proxy_left_is_sent,
 ]

@@ -3,11 +3,16 @@
 usage: python3 -m tests.tools.stopped PROGRAM [NAME ..]
 
 A step is a file that is opened to be written, one that is renamed, linked, removed or changed in its mode, a folder that is made or
-removed, a database that is opened, or a process that is started. Before the step of each number the tool is killed once, and once that
-step fails for want of room, but for a removal. PROGRAM is rad_proxy, with the auditor beside it. Each test is a command below. The last line is
-`N passed, M failed`.
+removed, a database that is opened, or a process that is started; of a script of the package, each command that it calls. Before the step of
+each number the tool is killed once, and once that step fails for want of room, but for a removal. PROGRAM is rad_proxy, with the auditor
+beside it. Each test is a command below. The last line is `N passed, M failed`.
 """
+import contextlib
+import gzip
+import itertools
+import os
 import pathlib
+import re
 import shutil
 import signal
 import sqlite3
@@ -15,17 +20,22 @@ import subprocess
 import sys
 import tempfile
 from concurrent.futures import ThreadPoolExecutor
+from types import SimpleNamespace
 
-from tests.lib import TOP, hope, need, text, try_each
+from tests.lib import TOP, hope, need, text, try_each, until
 from tests.lib.ledgers import chained
+from tests.lib.stand_ins import TEXT, Asking
+from tests.lib.tools.capturing import pcap
 from tests.lib.tools.running import TOOLS, want
 from tests.tools.ledger import CONFIG, Ledger, auditor_of
+from tests.tools.trial import Traffic, configuration
+from tools.controlling.bounds import NO_SERVICE
 
 # Runs the tool of the further words, and stops it before the step of a number: by KILL, or with an error.
 STOPPING = """
 import errno, os, runpy, signal, sys
 at, how, count = int(sys.argv[1]), sys.argv[2], 0
-STEPS = {"os.rename", "os.remove", "os.mkdir", "os.rmdir", "os.link", "os.chmod", "sqlite3.connect", "subprocess.Popen"}
+STEPS = {"os.rename", "os.remove", "os.mkdir", "os.rmdir", "os.link", "os.chmod", "os.fork", "sqlite3.connect", "subprocess.Popen"}
 def see(event, its):
     global count
     writes = event == "open" and its[0] != os.devnull and its[2] & (os.O_WRONLY | os.O_RDWR | os.O_CREAT)
@@ -41,20 +51,55 @@ sys.path.insert(0, os.path.dirname(sys.argv[0]))
 sys.addaudithook(see)
 runpy.run_path(sys.argv[0], run_name="__main__")
 """
-SECONDS, MOST_STEPS, AT_ONCE = 60, 60, 4
+# What a script of the package calls, each by this, which counts the calls and stops the script at one, or fails. It starts, stops and lists
+# units, which are files of a folder, and notes what else it is to do.
+CALLED = "chmod", "chown", "deb-systemd-invoke", "rad_proxyctl", "rm", "systemctl", "systemd-cat", "systemd-sysusers"
+CALL = """#!/bin/sh
+echo >>"$ROOM/calls"
+if [ "$(wc -l <"$ROOM/calls")" -eq "$AT" ]; then
+	[ "$HOW" = fail ] && exit 1
+	kill -KILL 0
+fi
+words="${0##*/} $*"
+cd "$ROOM/units"
+case $words in
+"systemctl stop "* | "deb-systemd-invoke stop "*) shift; /bin/rm -f $* ;;
+"systemctl start "*) touch "$2" ;;
+"systemctl is-active "*) test -e "$3" ;;
+"systemctl list-units "*) for unit in rad_proxy.service rad_proxy@*.service; do echo "$unit loaded active running"; done ;;
+"rm "*) exec /bin/rm "$@" ;;
+"systemd-cat "*) ;;
+*) echo "$words" >>"$ROOM/notes" ;;
+esac
+"""
+# What is active and what is there before a script, and how each is called: of an upgrade, a first installation, a removal and a purge.
+UNITS = "rad_proxy.service", "rad_proxy@two.service", "rad_proxy-metrics.socket", "rad_proxy-metrics.service", "rad_proxy-heads.timer"
+THERE = "etc/rad_proxy/one.toml", "var/cache/rad_proxy/counters", "etc/systemd/system/a.wants/rad_proxy-heads.path", "var/lib/rad_proxy/kept"
+SCRIPTS = ("postinst", "configure", "0.1"), ("postinst", "configure", ""), ("prerm", "remove"), ("postrm", "remove"), ("postrm", "purge")
+SECONDS, MOST_STEPS, AT_ONCE = 300, 60, 4
 # What a tool that was killed may leave beside its files, by the beginnings of the names.
-BESIDE = ".rad_convert-", ".new-"
+BESIDE = ".rad_convert-", ".new-", "numbers.", "script."
+# The end of the name of SQLite's journal. One whose transaction is not over counts for nothing, and the next one takes its place.
+JOURNAL = "-journal"
+# The folder of temporary files, and what one who was killed leaves there: a room, or the file by which Python sees that it can write there.
+ROOMS, ROOM = "rooms", re.compile("rad_ledger-.*|[a-z0-9_]{8}")
+# What is asked: the input, and the words.
+ASKED = (b"", "state"), (b"", "metrics"), (b"", "out", "9"), (b"drain\n", "out", "9"), (b"", "trace", "9", "alice\n")
+# What a service has in its folder, whoever asks it; the locks of those who ask and of those who restart are of it.
+KEPT = "commands", "counters", "lock", "restart.lock"
 
 
 class Command:
     """A tool with its words, in a folder of its own where its files come to be."""
 
     def __init__(self, room, tool, *words):
-        self.room, self.tool, self.words = room, tool, words
+        self.room, self.tool, self.words, self.rooms = room, tool, words, room.parent / ROOMS
+        self.rooms.mkdir(exist_ok=True)
+        self.environment = os.environ | {"TMPDIR": str(self.rooms)}
 
     def run(self, at=0, how="no"):
         words = [sys.executable, "-c", STOPPING, str(at), how, TOOLS / self.tool, *self.words]
-        return subprocess.run(words, cwd=self.room, capture_output=True, timeout=SECONDS, stdin=subprocess.DEVNULL)
+        return subprocess.run(words, cwd=self.room, env=self.environment, capture_output=True, timeout=SECONDS, stdin=subprocess.DEVNULL)
 
     def files(self):
         """Each file that is there, with what it says."""
@@ -63,13 +108,29 @@ class Command:
     def beside(self):
         return [str(file.relative_to(self.room)) for file in self.room.rglob("*") if is_beside(file, self.room)]
 
+    def left_rooms(self):
+        """The temporary folders that are left, once nobody works in them or for it any more."""
+        until("nobody works in its rooms", lambda: not processes_in(self.rooms) + processes_in(self.room))
+        return sorted(file.name for file in self.rooms.iterdir())
+
     def clear(self):
-        for file in self.room.iterdir():
+        for file in [*self.room.iterdir(), *self.rooms.iterdir()]:
             shutil.rmtree(file) if file.is_dir() else file.unlink()
 
 
+def processes_in(folder):
+    """The processes that work in a folder below this one."""
+    found = []
+    for process in pathlib.Path("/proc").iterdir():
+        # A process may end meanwhile.
+        with contextlib.suppress(OSError):
+            if process.name.isdecimal() and pathlib.Path(os.readlink(process / "cwd")).is_relative_to(folder):
+                found.append(process.name)
+    return found
+
+
 def is_beside(file, room):
-    return any(part.startswith(BESIDE) for part in file.relative_to(room).parts)
+    return file.name.endswith(JOURNAL) or any(part.startswith(BESIDE) for part in file.relative_to(room).parts)
 
 
 def says(file):
@@ -94,14 +155,17 @@ def stop_at_each(command):
         see_left(command, ran.returncode, whole, f"killed at {at}")
         command.clear()
         refused = command.run(at, "fail")
-        hope(f"a step is refused at {at}: beside its files", command.beside(), [])
+        hope(f"a step is refused at {at}: beside its files", command.beside() + command.left_rooms(), [])
         see_left(command, ran.returncode, whole, f"refused at {at}", refused)
     need(1 < at < MOST_STEPS - 1, f"{at} steps")
 
 
 def see_left(command, status, whole, what, refused=None):
-    """Each file that is there is as it should be, and where not all are, the next run makes them. A command that fails says so in words."""
-    left = command.files()
+    """Each file that is there is as it should be, and where not all are, the next run makes them, and leaves no room of its own. A command that
+    fails says so in words."""
+    # Who still has a database open keeps its journal from being played back.
+    rooms, left = command.left_rooms(), command.files()
+    need(all(map(ROOM.fullmatch, rooms)), f"{what}: {rooms}")
     for name, octets in left.items():
         need(octets == whole.get(name) or is_empty(octets), f"{what}: {name} is there in part")
     if refused:
@@ -112,6 +176,7 @@ def see_left(command, status, whole, what, refused=None):
     again = command.run()
     need(again.returncode == status, f"{what}: the next run: {again.stderr.decode()[-600:]}")
     need(command.files() == whole, f"{what}: the next run: other files")
+    hope(f"{what}: the rooms behind the next run", command.left_rooms(), rooms)
 
 
 def is_empty(said):
@@ -123,7 +188,7 @@ class Stage:
     """A ledger of three files and its configuration, and commands over them."""
 
     def __init__(self, program, room):
-        self.room, self.auditor = room, auditor_of(program)
+        self.program, self.room, self.auditor = program, room, auditor_of(program)
         self.config, self.folder = room / "config.toml", room / "ledger"
         self.config.write_text(CONFIG)
         self.folder.mkdir()
@@ -131,7 +196,9 @@ class Stage:
             made = Ledger(self.folder, 0xA1 + number)
             for home in (0, 1, 0):
                 made.add(session=b"S%d" % number, home=home)
-            made.path.write_text(text(chained([*made.lines, made.made.end_of_all()])))
+            octets = text(chained([*made.lines, made.made.end_of_all()])).encode()
+            # The auditor gets what is compressed by a fifo, which it opens.
+            made.path.write_bytes(octets) if number == 0 else made.path.with_name(f"{made.path.name}.gz").write_bytes(gzip.compress(octets, mtime=0))
 
     def command(self, tool, *words):
         room = self.room / "made"
@@ -140,6 +207,121 @@ class Stage:
 
     def ledger(self, *words):
         return self.command("rad_ledger", *words)
+
+
+class Question(Command):
+    """What asks a proxy in its folder, which is a stand-in; with what it is given on its input."""
+
+    def __init__(self, one, given, *words):
+        super().__init__(one.folder, "controlling/asking.py", *words)
+        self.one, self.given = one, given
+
+    def run(self, at=0, how="no"):
+        self.one.mode = "open"
+        words = [sys.executable, "-c", STOPPING, str(at), how, TOOLS / self.tool, *self.words]
+        return subprocess.run(words, cwd=self.room, capture_output=True, timeout=SECONDS, input=self.given)
+
+    def left(self):
+        """What is left in the folder, beside what a service has there."""
+        return sorted(file.name for file in self.room.iterdir() if not file.name.startswith(KEPT))
+
+    def has_what_is_there_with_a_drain(self):
+        """Where the proxy drains, the file `out` stays, for the next start to remove."""
+        hope("what is left", self.left(), ["out"] if self.one.mode == "done" else [])
+        self.clear()
+
+    def clear(self):
+        for name in ("out", "trace"):
+            (self.room / name).unlink(missing_ok=True)
+
+
+def stop_a_question(question):
+    """Kills it before each step: the next one is answered, and leaves nothing. Refuses each step once: it leaves nothing, and says so in words."""
+    ran = question.run()
+    need(ran.returncode == 0, ran.stderr.decode())
+    question.has_what_is_there_with_a_drain()
+    for at in range(1, MOST_STEPS):
+        if question.run(at, "kill").returncode != -signal.SIGKILL:
+            break
+        # Nobody is there any more who could take these away.
+        question.clear()
+        again = question.run()
+        hope(f"killed at {at}: the next one", (again.returncode, again.stderr), (0, b""))
+        question.has_what_is_there_with_a_drain()
+        refused = question.run(at, "fail")
+        need(b"Traceback" not in refused.stderr, f"refused at {at}: {refused.stderr.decode()}")
+        question.has_what_is_there_with_a_drain()
+    question.clear()
+    need(1 < at < MOST_STEPS - 1, f"{at} steps")
+
+
+def questions(stage):
+    with served(stage) as (_, one):
+        for given, *words in ASKED:
+            try:
+                stop_a_question(Question(one, given, *words))
+            except AssertionError as fault:
+                raise AssertionError(f"{given} {words}: {fault}") from None
+
+
+def questions_to_nobody(stage):
+    """In a folder without a service nothing is made."""
+    nobody = SimpleNamespace(folder=stage.room / "nobody", mode="")
+    nobody.folder.mkdir()
+    for given, *words in ASKED:
+        ran = Question(nobody, given, *words).run()
+        hope(words, (ran.returncode, ran.stdout, list(nobody.folder.iterdir())), (NO_SERVICE, b"", []))
+
+
+def numbers_in_a_file(stage):
+    with served(stage) as (asking, one):
+        stop_at_each(stage.command(asking.ctl, "-d", one.folder, "metrics", "numbers"))
+
+
+class Restarting(Command):
+    """What restarts a proxy in its folder, which is a stand-in, in a way that opens it again."""
+
+    def __init__(self, asking, one):
+        super().__init__(one.folder, asking.ctl, "-d", one.folder, "restart", "--force")
+        self.asking, self.one = asking, one
+
+    def run(self, at=0, how="no"):
+        way, calls = self.asking.restarting(self.one)
+        calls.unlink(missing_ok=True)
+        self.environment = self.asking.environment | way
+        return super().run(at, how)
+
+
+def restarts(stage):
+    """Whoever is killed or refused before a step of a restart, the next one restarts the service: no lock and no file keeps it from that.
+    What is refused says so in words, and the file `out` stands where the proxy drains alone."""
+    with served(stage) as (asking, _):
+        for at, how in itertools.product(range(1, MOST_STEPS), ("kill", "fail")):
+            restarting = Restarting(asking, asking.stand_in(f"{how}{at}"))
+            stopped = restarting.run(at, how)
+            if stopped.returncode == 0:
+                break
+            need(b"Traceback" not in stopped.stderr, f"{how} {at}: {stopped.stderr.decode()}")
+            again = restarting.run()
+            hope(f"{how} {at}: the next one", (again.returncode, again.stdout.splitlines()[-1:]), (0, [b"restarted"]))
+            until(f"{how} {at}: nothing is left", lambda: Question(restarting.one, b"").left() == [])
+        need(2 < at < MOST_STEPS - 1, f"{at} steps")
+
+
+@contextlib.contextmanager
+def served(stage):
+    """A stand-in for the service, whose numbers stay the same, and rad_proxyctl."""
+    installed = stage.room / "installed"
+    installed.mkdir()
+    asking = Asking(stage.program, installed)
+    try:
+        one = asking.stand_in()
+        one.text = TEXT.format(start=1, now=2, count=3).replace("{", "{{").replace("}", "}}")
+        one.writes = True
+        until("numbers", (one.folder / "counters").exists)
+        yield asking, one
+    finally:
+        asking.stop()
 
 
 def a_conversion(stage):
@@ -163,7 +345,77 @@ def queries_of_heads(stage):
     stop_at_each(stage.ledger("heads", "--heads", "heads", str(stage.folder)))
 
 
-TESTS = [a_conversion, a_hand_out, an_import, an_index, queries_of_heads]
+def a_script_of_a_trial(stage):
+    traffic, config, capture = Traffic(), stage.room / "trial.toml", stage.room / "trial.pcap"
+    traffic.ask()
+    config.write_text(configuration())
+    capture.write_bytes(pcap(traffic.frames()))
+    stop_at_each(stage.command("rad_trial", "--script", "script", str(config), str(capture)))
+
+
+class Maintaining:
+    """A script of the package with its words, over a system that is a folder."""
+
+    def __init__(self, room, name, *words):
+        self.room, self.words = room, words
+        text = (TOP / "packaging" / "debian" / name).read_text()
+        self.script = room / name
+        self.script.write_text(re.sub(r"(?<![\w/])/(?=(etc|run|usr|var)/)", f"{room}/", text))
+        (room / "bin").mkdir()
+        for called in CALLED:
+            (room / "bin" / called).write_text(CALL)
+            (room / "bin" / called).chmod(0o755)
+
+    def begin(self):
+        """The system is as before the script."""
+        for name in ("units", "etc", "var", "run", "calls", "notes"):
+            shutil.rmtree(self.room / name, ignore_errors=True)
+        for name in ("calls", "notes"):
+            (self.room / name).write_text("")
+        for name in (*(f"units/{unit}" for unit in UNITS), *THERE, "run/systemd/system/it"):
+            (self.room / name).parent.mkdir(parents=True, exist_ok=True)
+            (self.room / name).touch()
+
+    def run(self, at=0, how="no"):
+        (self.room / "calls").write_text("")
+        given = os.environ | {"ROOM": str(self.room), "AT": str(at), "HOW": how, "PATH": f"{self.room}/bin:/usr/bin:/bin"}
+        return subprocess.run(["sh", self.script, *self.words], env=given, capture_output=True, timeout=SECONDS, start_new_session=True)
+
+    def state(self):
+        """What is active, what is there, and what was done."""
+        active = sorted(file.name for file in (self.room / "units").iterdir())
+        there = sorted(str(file) for top in ("etc", "var", "run") for file in (self.room / top).rglob("*") if file.is_file())
+        return active, there, sorted(set((self.room / "notes").read_text().splitlines()))
+
+
+def stop_a_script(script):
+    """Kills it before each call, and lets each fail: what is not done is told, or the script fails; and run again it does all of it."""
+    script.begin()
+    hope("status", script.run().returncode, 0)
+    whole = script.state()
+    for at, how in itertools.product(range(1, MOST_STEPS), ("kill", "fail")):
+        script.begin()
+        ran = script.run(at, how)
+        if how == "kill" and ran.returncode == 0:
+            break
+        need(how == "fail" or ran.returncode == -signal.SIGKILL, f"{how} {at}: {ran}")
+        need(ran.returncode or ran.stderr or script.state() == whole, f"{how} {at}: it tells nothing")
+        hope(f"{how} {at}: the next one", (script.run().returncode, script.state()), (0, whole))
+    need(1 < at < MOST_STEPS - 1, f"{at} calls")
+
+
+def scripts_of_the_package(stage):
+    for name, *words in SCRIPTS:
+        room = stage.room / "-".join((name, *words))
+        room.mkdir()
+        try:
+            stop_a_script(Maintaining(room, name, *words))
+        except AssertionError as fault:
+            raise AssertionError(f"{name} {words}: {fault}") from None
+
+
+TESTS = [a_conversion, a_script_of_a_trial, a_hand_out, an_import, an_index, queries_of_heads, questions, questions_to_nobody, numbers_in_a_file,
+         restarts, scripts_of_the_package]
 
 
 def tried(test, program):

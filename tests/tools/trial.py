@@ -358,6 +358,20 @@ def a_script_is_never_too_long(program, folder):
     hope("its requests", sum(line.startswith("nas: new ") for line in replayed(program, path)), count)
 
 
+def what_a_script_cannot_have_is_told(program, folder):
+    """Datagrams without an octet are left out of a script, and counted."""
+    traffic, (config, capture, path) = Traffic(), (pathlib.Path(folder, name) for name in ("c.toml", "c.pcap", "script"))
+    config.write_text(configuration())
+    for octets in (b"", b"", None):
+        traffic.ask() if octets is None else traffic.send(octets, fate="dropped", why="Unread")
+    capture.write_bytes(pcap(traffic.frames()))
+    ran = tool("--script", path, config, capture)
+    hope("what is told", ran.stdout.decode().splitlines()[:2],
+         [f"1 of 3 datagrams are in {path}, with the secrets: rad_proxy replay < {path}",
+          "left out: 2 datagrams without an octet, which a script cannot have"])
+    hope("what it has", [line.split()[1] for line in replayed(program, path) if line.startswith("nas: ")], ["new"])
+
+
 def a_script_is_its_owners_alone(program, folder):
     """A script has the secrets. It takes the place of a file that others may read, or have open, and of nothing but a regular file."""
     traffic, (config, capture, path) = Traffic(), (pathlib.Path(folder, name) for name in ("c.toml", "c.pcap", "script"))
@@ -593,7 +607,7 @@ def see_bounds(program, folder, count, more):
 
 TESTS = [a_capture_is_begun, each_fate_is_counted, realms_that_are_not_listed_lead_on, each_form_is_played, both_sides_are_in_the_capture, an_outage_fills_the_queue,
          an_outage_may_come_later, answers_take_their_time, datagrams_that_the_system_drops_are_lost, odd_names_are_played,
-         warnings_are_told, two_homes_of_one_address_are_two, a_script_has_the_same, a_script_is_never_too_long, a_script_is_its_owners_alone, nothing_else_is_touched,
+         warnings_are_told, two_homes_of_one_address_are_two, a_script_has_the_same, a_script_is_never_too_long, what_a_script_cannot_have_is_told, a_script_is_its_owners_alone, nothing_else_is_touched,
          nothing_is_left_after_a_kill, faults_are_one_line, configurations_are_read_alike, users_are_told_of_root,
          a_capture_of_a_proxy_is_played, requests_take_bounded_time_and_memory]
 LONG = [as_many_requests_as_it_takes_have_bounds]

@@ -90,9 +90,13 @@ def made_answer():
     """The fifo of the answer. Where that of one who was killed is left, this one takes its place in one step."""
     removed("answer.new")
     os.mkfifo("answer.new", 0o600)
-    descriptor = os.open("answer.new", os.O_RDWR | os.O_NONBLOCK | os.O_CLOEXEC)
-    os.rename("answer.new", "answer")
-    return descriptor
+    try:
+        descriptor = os.open("answer.new", os.O_RDWR | os.O_NONBLOCK | os.O_CLOEXEC)
+        os.rename("answer.new", "answer")
+        return descriptor
+    except OSError:
+        removed("answer.new")
+        raise
 
 
 def is_written(commands, octets, until):

@@ -1,5 +1,6 @@
 """Runs `rad_audit --rows` over the files of a ledger, and reads its rows and its verdict."""
 import contextlib
+import ctypes
 import functools
 import os
 import pathlib
@@ -12,7 +13,7 @@ import tempfile
 import threading
 from dataclasses import dataclass
 
-from trial.faults import CONFIGURATION, FAILED, USAGE, Fault, shown_path
+from trial.faults import CONFIGURATION, FAILED, USAGE, Fault, shown_path, told_by
 
 from .evidence import counts_of, said_of
 from .rows import row_of, visible
@@ -23,6 +24,8 @@ AT_ONCE, APART, MOST_LINES = 1 << 20, 0.5, 20
 WRONG, CONTRADICTED = 5, 9
 # The status of a comparison that found a difference, and of a ledger of which a head is missing or refused.
 DIFFERS, HEADS_REFUSED = 11, 13
+# The number of what a process asks Linux for where its parent ends.
+DEATH_OF_PARENT = 1
 # The name by which rad_audit gets the configuration.
 CONFIG = "configuration"
 PLACE = re.compile(r"(?<![^ ])(\d+)/[A-Za-z0-9._-]+(?=:\d+: |$)")
@@ -184,9 +187,9 @@ class Audit:
     def begun(self, words, signals):
         """The process of it, which has these signals blocked."""
         pipes = {"stdin": subprocess.DEVNULL, "stdout": subprocess.PIPE, "stderr": self.errors}
-        give_back = functools.partial(signal.pthread_sigmask, signal.SIG_SETMASK, signals)
+        begin = functools.partial(begin_auditor, ctypes.CDLL(None).prctl, os.getpid(), signals)
         try:
-            return subprocess.Popen(words, cwd=self.room, preexec_fn=give_back, **pipes)
+            return subprocess.Popen(words, cwd=self.room, preexec_fn=begin, **pipes)
         except OSError as error:
             raise Fault(f"{shown_path(self.program)}: {error.strerror}") from None
 
@@ -208,11 +211,18 @@ class Audit:
         return str(path.relative_to(self.room))
 
     def hand_on(self):
-        """Hands on each file that rad_audit can't read itself, in order. What is wrong with one is told once the others are read."""
+        """Hands on each file that rad_audit can't read itself, in order. What is wrong with one is told once the others are read; where a pipe
+        can't be opened, rad_audit would wait for it for ever, and is ended."""
         for number, source in enumerate(self.sources):
             if source.is_handed_on:
                 try:
-                    with open(pathlib.Path(self.room, str(number), source.name), "wb", buffering=0) as pipe:
+                    pipe = open(pathlib.Path(self.room, str(number), source.name), "wb", buffering=0)
+                except OSError as error:
+                    self.fault = self.fault or Fault(f"{source}: not handed on: {told_by(error)}")
+                    self.ran.kill()
+                    return
+                try:
+                    with pipe:
                         self.fill(pipe, number, source)
                 except OSError:
                     return
@@ -292,7 +302,7 @@ class Audit:
         if status in (CONFIGURATION, FAILED):
             raise Fault(last, status)
         if status < 0:
-            raise Fault(f"{shown_path(self.program)} was ended by signal {-status}")
+            raise self.fault or Fault(f"{shown_path(self.program)} was ended by signal {-status}")
         return Verdict(FAILED if self.fault else status, lines, self.fault, self.sources.unread)
 
     def show(self):
@@ -344,6 +354,15 @@ def undisturbed():
         yield kept
     finally:
         signal.pthread_sigmask(signal.SIG_SETMASK, kept)
+
+
+def begin_auditor(prctl, parent, signals):
+    """What the process of rad_audit does first: it has these signals blocked, and ends with the tool, however that ends. Else it would wait
+    for ever for a pipe that nobody opens."""
+    signal.pthread_sigmask(signal.SIG_SETMASK, signals)
+    prctl(DEATH_OF_PARENT, signal.SIGKILL)
+    if os.getppid() != parent:
+        os.kill(os.getpid(), signal.SIGKILL)
 
 
 def link(path, name):

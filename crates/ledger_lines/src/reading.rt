@@ -16,7 +16,7 @@ use crate::record_count::record_count_of;
 use crate::values::{read_value, sum_if_any_at, text_at};
 use json::{Scratch, Value};
 use ledger_rules::{Entry, Left, RecordCount};
-use std::alloc::{AllocError, Global};
+use std::alloc::Global;
 
 /// The most octets of a line.
 pub const MOST_LINE_OCTETS: usize = 65_536;
@@ -70,16 +70,10 @@ pub(crate) struct Words {
 }
 
 impl Room {
-    /// Room for a line of at most [`MOST_LINE_OCTETS`].
-    ///
-    /// # Errors
-    ///
-    /// Where memory is refused.
-    pub fn new(alloc: Global) -> Result<Room, AllocError> {
-        let mut scratch = Scratch::new(alloc);
-        scratch.reserve(MOST_LINE_OCTETS)?;
-        Ok(Room {
-            scratch,
+    /// Room for a line. It grows with the longest line that is read with it.
+    pub fn new(alloc: Global) -> Room {
+        Room {
+            scratch: Scratch::new(alloc),
             octets: Octets {
                 words: Words {
                     realm: Vec::new(alloc),
@@ -91,7 +85,7 @@ impl Room {
                 response: Vec::new(alloc),
                 request: Vec::new(alloc),
             },
-        })
+        }
     }
 }
 

@@ -4,8 +4,8 @@
 //! of `tests`.
 //!
 //! `queues`, `sliding` and `tables` test the collections, `lane` a lane, `desk` the end of a proxy, `server` sockets and
-//! threads, `telemetry` the log and the metrics, `lines` the lines of a ledger, and `requests` what signs a request. `nas` and
-//! `homes` have the packets that tests share.
+//! threads, `telemetry` the log and the metrics, `lines` the lines of a ledger, `spool` the files of a spool, and `requests`
+//! what signs a request. `nas` and `homes` have the packets that tests share.
 #![tactic(auto)]
 
 #[cfg(test)]
@@ -32,6 +32,8 @@ mod requests;
 mod server;
 #[cfg(test)]
 mod sliding;
+#[cfg(test)]
+mod spool;
 #[cfg(test)]
 mod tables;
 #[cfg(test)]

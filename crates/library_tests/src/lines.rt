@@ -48,6 +48,6 @@ fn each_stays(rt: &impl Abort, alloc: Global, room: &mut Room) -> Result<(), Fai
 
 #[test]
 fn lines_are_written_as_they_were_read(rt: HostRuntime) -> Result<(), Fail> {
-    let mut room = Room::new(rt.alloc())?;
+    let mut room = Room::new(rt.alloc());
     each_stays(&rt, rt.alloc(), &mut room)
 }

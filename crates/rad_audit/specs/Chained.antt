@@ -1,8 +1,15 @@
 -- The chain of a run's lines, as the auditor reads them (own).
-use Rattle.std.specs.Prelude.{◌≡◌, ◌≢◌, ℕ, ◌⊎◌, false, List, Option, Some, None, IfSome, is_some, if◌then◌else◌, option_map}
+use Rattle.std.specs.Prelude.{◌≡◌, ◌≢◌, ℕ, ◌⊎◌, false, List, [], ◌∷◌, ◌++◌, Option, Some, None, IfSome, MatchOption, is_some, if◌then◌else◌, option_map}
+use Rattle.sha2.specs.Sha256.{sha256}
 use Rattle.ledger_files.specs.Chains.{chain_after}
+use Rattle.ledger_files.specs.Tails.{HasTail, tail_of}
 use Rattle.rad_audit.specs.declared.chains.LineSum.{LineSum}
 use Rattle.rad_audit.specs.declared.chains.RunChain.{RunChain}
+
+-- What the end of a line says, which is given without its line end, if it ends with a sum.
+abbrev pub HasLineSum : List ℕ → Option LineSum → Type 0
+HasLineSum line its =
+    MatchOption its (¬ HasTail (line ++ 10 ∷ [])) (λ its. (body : List ℕ) × (line ++ 10 ∷ [] ≡ body ++ tail_of its.sum) × (its.digest ≡ Some (sha256 body)))
 
 -- The sum of a line is right behind a line of this sum. Any is, where that is not known, or where the line or a part of it is left out.
 abbrev pub Fits : Option (List ℕ) → LineSum → Type 0

@@ -1,7 +1,9 @@
+pub mod Blocks
 pub mod Cells
 pub mod Chained
 pub mod Facts
 pub mod Files
+pub mod Judging
 pub mod Kept
 pub mod Lines
 pub mod Printed

@@ -67,6 +67,13 @@ pub record IsCounted (e : Entry) (home client : Option (List ℕ)) (old : Tally)
   pub number : CountsNumber was is e.about.number
   pub left : is.left ≡ was.left
 
+-- Nothing is wrong with it behind those of its lane.
+pub record IsRightInPlace (e : Entry) (home client : Option (List ℕ)) (old : Tally) (was : Account) : Type 0 where
+  pub right : ArePacketsRight e home client
+  pub words : HasItsWords e.sent.now (words_of e.about)
+  pub in_place : old.next ≤ e.serial
+  pub fresh : ¬ IsKnown was.numbers e.about.number
+
 -- What is wrong with it: its words last.
 abbrev pub IsWrongEntry : Entry → Option (List ℕ) → Option (List ℕ) → Tally → Account → Reason → Type 0
 IsWrongEntry e home client old was NotEntry = ⊥

@@ -1,17 +1,18 @@
 //! The audit of files.
 
-ghost use Rattle.std.specs.Prelude.{◌≡◌, ◌↔◌, ◌<◌, ◌^◌, IfErr, IfOk, IsTrue, MatchOption, None, find, option_copied, option_map};
-ghost use Rattle.std.specs.Str.{bytes_eq};
-ghost use Rattle.rad_realms.specs.Realm.{client_of};
+ghost use Rattle.std.specs.Prelude.{◌≡◌, ◌↔◌, IfErr, IfOk, IsTrue, MatchOption, None};
+ghost use Rattle.rad_audit.specs.Blocks.{IsJudgedPart};
+ghost use Rattle.rad_audit.specs.Judging.{IsFound, IsJudged, IsJudgedLine};
 ghost use Rattle.rad_audit.specs.Lines.{IsFront};
 ghost use Rattle.rad_audit.specs.Statuses.{IsStatus};
 ghost use Rattle.rad_audit.specs.declared.faults.Fault.TheVariants.{Output};
 
+use crate::blocks::{Block, FileLine, Found, Part};
 use crate::chains::LineSum;
 use crate::faults::Fault;
 use crate::hints::Hints;
+use crate::judging::{Content, JudgedEntry, JudgedLine, secret_of_client};
 use crate::kept_sums::KeptSums;
-use crate::line_room::{LineRoom, Piece};
 use crate::named_file::{NamedFile, parts_of};
 use crate::printing::{
     Asked, Finding, Findings, LaneCounts, LaneName, LinePlace, NO_FINDINGS, Outputs, Report,
@@ -21,18 +22,15 @@ use crate::taking::{
     TakenEntry, judge_count, judge_stray, judge_stray_left, take_entry, take_left,
 };
 use crate::ties::{Tie, Ties};
-use ledger_lines::{
-    Begin, End, FileBefore, Hidden, LaneCount, Line, LineFault, MOST_LINE_OCTETS, Room, SummedLine,
-    moment_of, read_line,
-};
-use ledger_rules::{EndCounts, Entry, Fates, Left, Reason, RecordCount};
+use ledger_lines::{Begin, End, FileBefore, Hidden, LaneCount, MOST_LINE_OCTETS, moment_of};
+use ledger_rules::{EndCounts, Fates, Left, Reason, RecordCount};
 use libc::{STDERR_FILENO, isatty};
-use rad_auth::Secret;
-use rad_realms::{Config, Home};
+use rad_realms::Config;
 use std::alloc::{AllocError, Global};
 use std::fs;
 use std::io::{BufRead, BufReader, Write};
 use std::rt::Runtime;
+use std::thread::Threads;
 
 /// How many octets of a file are read at once.
 const READ_OCTETS: usize = 262_144;
@@ -46,7 +44,7 @@ const LINES_APART: u64 = 65_536;
 /// # Errors
 ///
 /// `File` if a file can't be read, `Output` if nothing more can be printed, `Memory` if a growth is refused.
-pub fn audit_files<R: Runtime, W: Write>(
+pub fn audit_files<R: Runtime + Threads + Sync, W: Write>(
     rt: &R,
     alloc: Global,
     config: &Config,
@@ -67,7 +65,7 @@ where
             ..NO_FINDINGS
         },
     };
-    Audit::new(alloc, config, sums, report)?.read_files(rt, files)
+    Audit::new(rt, alloc, config, sums, report)?.read_files(rt, files)
 }
 
 /// A line that is no line of a ledger, kept until the next one shows whether it was cut short.
@@ -78,13 +76,22 @@ struct Held {
     line: Option<u64>,
 }
 
-/// What an audit keeps from line to line.
+/// An audit of files.
 #[derive(Drop)]
 struct Audit<'a, W> {
     alloc: Global,
     config: &'a Config,
-    room: Room,
-    line: LineRoom,
+    block: Block,
+    taken: Taken<'a, W>,
+}
+
+/// What an audit keeps from line to line.
+#[derive(Drop)]
+struct Taken<'a, W> {
+    alloc: Global,
+    config: &'a Config,
+    /// Whether standard error is a terminal.
+    is_watched: bool,
     held: Held,
     hints: Hints,
     known: Known<'a>,
@@ -138,50 +145,63 @@ impl Known<'_> {
 }
 
 impl<'a, W: Write> Audit<'a, W> {
-    fn new(
+    fn new<R: Threads>(
+        rt: &R,
         alloc: Global,
         config: &'a Config,
         sums: KeptSums<'a>,
         report: Report<'a, W>,
     ) -> Result<Audit<'a, W>, AllocError> {
         let octets = Vec::with_capacity(alloc, MOST_LINE_OCTETS)?;
-        let line = LineRoom::new(alloc)?;
         Ok(Audit {
             alloc,
             config,
-            room: Room::new(alloc)?,
-            line,
-            held: Held { octets, line: None },
-            hints: Hints::new(),
-            known: Known {
-                runs: Runs::new(alloc),
-                sums,
-                ties: Ties::new(alloc),
-                begun: None,
+            block: Block::new(rt, alloc),
+            taken: Taken {
+                alloc,
+                config,
+                is_watched: false,
+                held: Held { octets, line: None },
+                hints: Hints::new(),
+                known: Known {
+                    runs: Runs::new(alloc),
+                    sums,
+                    ties: Ties::new(alloc),
+                    begun: None,
+                },
+                report,
             },
-            report,
         })
     }
 
     /// Reads the files, prints what each lane of each run has, and returns the status.
-    fn read_files<R: Runtime>(&mut self, rt: &R, files: &[&str]) -> Result<u8, Fault>
+    fn read_files<R: Runtime + Threads + Sync>(
+        &mut self,
+        rt: &R,
+        files: &[&str],
+    ) -> Result<u8, Fault>
     where
         R::File: Drop,
         ensures { IfOk result IsStatus }
     {
         let is_watched = isatty(STDERR_FILENO) == 1;
         self.look_ahead(rt, files)?;
-        let read = self.open_each(rt, files, is_watched);
+        self.taken.is_watched = is_watched;
+        let read = self.open_each(rt, files);
         if is_watched {
             clear_place(rt);
         }
         read?;
-        self.hints.tell(rt, &self.known.runs);
-        self.end()
+        self.taken.tell_hints(rt);
+        self.taken.end()
     }
 
     /// Reads the first line of each file that can be read twice, for the line of another run that it names.
-    fn look_ahead<R: Runtime>(&mut self, rt: &R, files: &[&str]) -> Result<(), Fault>
+    fn look_ahead<R: Runtime + Threads + Sync>(
+        &mut self,
+        rt: &R,
+        files: &[&str],
+    ) -> Result<(), Fault>
     where
         R::File: Drop,
     {
@@ -193,7 +213,7 @@ impl<'a, W: Write> Audit<'a, W> {
         Ok(())
     }
 
-    fn look_into<R: Runtime>(&mut self, rt: &R, path: &str) -> Result<(), Fault>
+    fn look_into<R: Runtime + Threads + Sync>(&mut self, rt: &R, path: &str) -> Result<(), Fault>
     where
         R::File: Drop,
     {
@@ -203,37 +223,37 @@ impl<'a, W: Write> Audit<'a, W> {
         let Ok(mut reader) = BufReader::with_capacity(self.alloc, READ_OCTETS, file) else {
             return Err(Fault::Memory);
         };
-        let Ok(Piece::Whole) = self.line.read(&mut reader) else {
+        if self.block.read_first(&mut reader).is_err() {
             return Ok(());
-        };
-        match read_line(self.alloc, self.line.as_slice(), &mut self.room) {
-            Ok(
-                SummedLine {
-                    line: Line::Begin(begin),
-                    ..
-                },
-            ) => Ok(self.known.expect(begin.before)?),
-            Err(LineFault::OutOfMemory) => Err(Fault::Memory),
-            _ => Ok(()),
         }
+        let Audit {
+            block,
+            config,
+            taken,
+            ..
+        } = self;
+        let parts = block.judge(rt, config)?;
+        for part in parts.iter() {
+            taken.look_at(part)?;
+        }
+        Ok(())
     }
 
-    fn open_each<R: Runtime>(
+    fn open_each<R: Runtime + Threads + Sync>(
         &mut self,
         rt: &R,
         files: &[&str],
-        is_watched: bool,
     ) -> Result<(), Fault>
     where
         R::File: Drop,
     {
         for path in files {
-            self.open(rt, path, is_watched)?;
+            self.open(rt, path)?;
         }
         Ok(())
     }
 
-    fn open<R: Runtime>(&mut self, rt: &R, path: &str, is_watched: bool) -> Result<(), Fault>
+    fn open<R: Runtime + Threads + Sync>(&mut self, rt: &R, path: &str) -> Result<(), Fault>
     where
         R::File: Drop,
     {
@@ -244,104 +264,160 @@ impl<'a, W: Write> Audit<'a, W> {
         let Ok(mut reader) = BufReader::with_capacity(self.alloc, READ_OCTETS, file) else {
             return Err(Fault::Memory);
         };
-        self.read_file(rt, path, &mut reader, is_watched)
+        self.read_file(rt, path, &mut reader)
     }
 
-    fn read_file<H: Runtime, R: BufRead>(
+    fn read_file<H: Runtime + Threads + Sync, R: BufRead>(
         &mut self,
         rt: &H,
         file: &str,
         reader: &mut R,
-        is_watched: bool,
     ) -> Result<(), Fault> {
-        self.known.begun = None;
-        for line in 1..u64::MAX {
-            let place = LinePlace { file, line };
-            if is_watched && line.is_multiple_of(LINES_APART) {
-                tell_place(rt, place);
-            }
-            let piece = match self.line.read(reader) {
-                Ok(piece) => piece,
+        self.taken.known.begun = None;
+        let mut next = LinePlace { file, line: 1 };
+        for _ in 0..u64::MAX {
+            let read = self.block.read(reader);
+            next.line = self.take_block(rt, next)?;
+            match read {
+                Ok(true) => {}
+                Ok(false) => break,
                 Err(error) => return Err(Fault::of_file(self.alloc, file, &error)),
-            };
-            self.settle(file)?;
-            self.hints.see(line, self.line.as_slice());
-            match piece {
-                Piece::Whole => self.take(place)?,
-                Piece::TooLong => self.report.tell(Finding::Wrong(place, Reason::NotEntry))?,
-                Piece::Unended => self.report.tell(Finding::Torn(place))?,
-                Piece::End => break,
+            }
+        }
+        self.taken.settle(file, &[])
+    }
+
+    /// Takes the lines that were read, of which the first one stands here. Returns the number of the next one.
+    fn take_block<R: Runtime + Threads + Sync>(
+        &mut self,
+        rt: &R,
+        place: LinePlace<'_>,
+    ) -> Result<u64, Fault> {
+        let Audit {
+            block,
+            config,
+            taken,
+            ..
+        } = self;
+        let parts = block.judge(rt, config)?;
+        let mut next = place;
+        for part in parts.iter() {
+            next.line = taken.take_part(rt, next, part)?;
+        }
+        Ok(next.line)
+    }
+}
+
+impl<'a, W: Write> Taken<'a, W> {
+    /// Looks at the first line of a file, for the line of another run that it names.
+    fn look_at(&mut self, part: &Part<'_>) -> Result<(), Fault> {
+        let Part::Lines(lines) = part else {
+            return Err(Fault::Memory);
+        };
+        for line in lines.iter() {
+            if let Found::Line(
+                JudgedLine {
+                    content: Content::Begin(begin),
+                    ..
+                },
+            ) = &line.found
+            {
+                self.known.expect(begin.before)?;
             }
         }
         Ok(())
     }
 
-    /// Tells of the line before, if it was no line of a ledger.
-    fn settle(&mut self, file: &str) -> Result<(), Fault> {
+    /// Takes lines, of which the first one stands here. Returns the number of the next one.
+    fn take_part<R: Runtime>(
+        &mut self,
+        rt: &R,
+        place: LinePlace<'_>,
+        part: &Part<'_>,
+    ) -> Result<u64, Fault>
+        requires { IsJudgedPart part.now }
+    {
+        let Part::Lines(lines) = part else {
+            return Err(Fault::Memory);
+        };
+        let mut next = place;
+        for line in lines.iter() {
+            if self.is_watched && next.line.is_multiple_of(LINES_APART) {
+                tell_place(rt, next);
+            }
+            self.take_line(next, line)?;
+            next.line = next.line.saturating_add(1);
+        }
+        Ok(next.line)
+    }
+
+    fn take_line(&mut self, place: LinePlace<'_>, line: &FileLine<'_>) -> Result<(), Fault>
+        requires { IsFound line.now.octets.now line.now.found }
+    {
+        self.settle(place.file, line.octets)?;
+        self.hints.see(place.line, line.octets);
+        match &line.found {
+            Found::Line(judged) => self.take(place, judged),
+            Found::NoLine => self.hold(place.line, line.octets),
+            Found::TooLong => self.report.tell(Finding::Wrong(place, Reason::NotEntry)),
+            Found::Unended => self.report.tell(Finding::Torn(place)),
+        }
+    }
+
+    /// Tells of the line before, if it was no line of a ledger. The line behind it has these octets.
+    fn settle(&mut self, file: &str, octets: &[u8]) -> Result<(), Fault> {
         let Some(line) = self.held.line else {
             return Ok(());
         };
         self.held.line = None;
         let place = LinePlace { file, line };
-        if is_front(self.held.octets.as_slice(), self.line.as_slice()) {
+        if is_front(self.held.octets.as_slice(), octets) {
             self.report.tell(Finding::Torn(place))
         } else {
             self.report.tell(Finding::Wrong(place, Reason::NotEntry))
         }
     }
 
-    fn take(&mut self, place: LinePlace<'_>) -> Result<(), Fault> {
-        if self.take_read(place)? {
-            Ok(())
-        } else {
-            self.hold(place.line)
-        }
-    }
-
-    /// Takes the line that was read, if it is a line of a ledger. Returns whether it is.
-    #[tactic(auto, using(crate::proofs::Entries::serial_of_line))]
-    fn take_read(&mut self, place: LinePlace<'_>) -> Result<bool, Fault> {
-        let (alloc, config) = (self.alloc, self.config);
+    /// Takes a line of a ledger.
+    fn take(&mut self, place: LinePlace<'_>, line: &JudgedLine<'_>) -> Result<(), Fault>
+        requires { IsJudgedLine line.now }
+    {
         let (known, report) = (&mut self.known, &mut self.report);
-        let octets = self.line.as_slice();
-        let read = match read_line(alloc, octets, &mut self.room) {
-            Ok(read) => read,
-            Err(LineFault::NotALine) => return Ok(false),
-            Err(LineFault::OutOfMemory) => return Err(Fault::Memory),
-        };
-        let sum = LineSum::of(octets);
-        match read.line {
-            Line::Entry(entry) => {
-                pass_line(known, report, place, entry.about.run, sum)?;
-                count_entry(alloc, config, &mut known.runs, report, place, &entry)?;
+        let sum = line.sum;
+        match &line.content {
+            Content::Entry(judged) => {
+                pass_line(known, report, place, judged.entry.about.run, sum)?;
+                count_entry(&mut known.runs, report, place, judged)
             }
-            Line::Left(left) => {
+            Content::Left(left) => {
                 pass_line(known, report, place, left.about.run, sum)?;
-                count_left(config, &mut known.runs, report, place, &left)?;
+                count_left(self.config, &mut known.runs, report, place, left)
             }
-            Line::Unsent(count) | Line::Again(count) => {
+            Content::Count(count) => {
                 pass_line(known, report, place, count.run, sum)?;
-                take_count(&mut known.runs, report, place, &count)?;
+                take_count(&mut known.runs, report, place, count)
             }
-            Line::Begin(begin) => {
-                begin_file(alloc, known, report, place, &begin)?;
-                pass_begin(known, report, place, &begin, sum)?;
+            Content::Begin(begin) => {
+                begin_file(self.alloc, known, report, place, begin)?;
+                pass_begin(known, report, place, begin, sum)
             }
-            Line::End(end) => {
-                let sum = cut_by(end.hidden, sum);
-                pass_line(known, report, place, end.run, sum)?;
-                take_end(&mut known.runs, report, place, &end)?;
+            Content::End(end) => {
+                pass_line(known, report, place, end.run, cut_by(end.hidden, sum))?;
+                take_end(&mut known.runs, report, place, end)
             }
-            Line::Hidden(hidden) => pass_hidden(known, report, place, &hidden)?,
+            Content::Hidden(hidden) => pass_hidden(known, report, place, hidden),
         }
-        Ok(true)
     }
 
-    fn hold(&mut self, line: u64) -> Result<(), Fault> {
+    fn hold(&mut self, line: u64, octets: &[u8]) -> Result<(), Fault> {
         self.held.octets.clear();
-        self.held.octets.extend_from_slice(self.line.as_slice())?;
+        self.held.octets.extend_from_slice(octets)?;
         self.held.line = Some(line);
         Ok(())
+    }
+
+    fn tell_hints<R: Runtime>(&self, rt: &R) {
+        self.hints.tell(rt, &self.known.runs);
     }
 
     /// Prints what each lane of each run has, and which sums were not found, and returns the status.
@@ -509,26 +585,20 @@ fn is_front(front: &[u8], next: &[u8]) -> bool
 }
 
 fn count_entry<W: Write>(
-    alloc: Global,
-    config: &Config,
     runs: &mut Runs,
     report: &mut Report<'_, W>,
     place: LinePlace<'_>,
-    entry: &Entry<'_>,
+    judged: &JudgedEntry<'_>,
 ) -> Result<(), Fault>
-    requires { entry.now.serial < 2 ^ 63 }
+    requires { IsJudged judged.now }
 {
-    let home = secret_of_home(config, entry.about.home);
-    let client = secret_of_client(config, entry.about.client);
+    let entry = &judged.entry;
     let lane = match runs.lane(entry.about.run, entry.about.lane) {
         Some(lane) if lane.home.as_str() == entry.about.home => lane,
-        _ => {
-            let reason = judge_stray(alloc, entry, home, client)?;
-            return report.tell(Finding::Wrong(place, reason));
-        }
+        _ => return report.tell(Finding::Wrong(place, judge_stray(judged))),
     };
     let (tally, account) = (&mut lane.tally, &mut lane.account);
-    match take_entry(alloc, entry, home, client, tally, account)? {
+    match take_entry(judged, tally, account)? {
         TakenEntry::Wrong(reason) => {
             if reason == Reason::WrongSent {
                 lane.wrong_sent = lane.wrong_sent.saturating_add(1);
@@ -538,7 +608,7 @@ fn count_entry<W: Write>(
         TakenEntry::Counted(gap) => {
             lane.ending.go_on();
             lane.times.take(moment_of(entry.about.time));
-            if home.is_none() || client.is_none() {
+            if judged.home.is_none() || judged.client.is_none() {
                 lane.not_judged = lane.not_judged.saturating_add(1);
             }
             if let Some(gap) = gap {
@@ -640,20 +710,6 @@ fn tell_lane<W: Write>(report: &mut Report<'_, W>, run: &Run, lane: &Lane) -> Re
         Some(back) => report.tell(back),
         None => Ok(()),
     }
-}
-
-fn secret_of_home<'a>(config: &'a Config, name: &str) -> Option<&'a Secret>
-    ensures { option_copied result ≡ option_map (λ h. h.secret) (find (λ h. bytes_eq h.name name.now) config.now.homes) }
-{
-    let mut homes = config.homes().iter();
-    let home = homes.find(|home: &&Home| home.name() == name)?;
-    Some(home.secret())
-}
-
-fn secret_of_client(config: &Config, address: [u8; 4]) -> Option<&Secret>
-    ensures { option_copied result ≡ option_map (λ c. c.secret) (client_of config.now address) }
-{
-    Some(config.client_of(address)?.secret())
 }
 
 fn take_end<W: Write>(

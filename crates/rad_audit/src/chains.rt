@@ -16,13 +16,12 @@ pub struct LineSum {
 }
 
 impl LineSum {
-    ghost use Rattle.std.specs.Prelude.{◌≡◌, ℕ, List, Some, None, [], ◌∷◌, ◌++◌, MatchOption};
-    ghost use Rattle.sha2.specs.Sha256.{sha256};
-    ghost use Rattle.ledger_files.specs.Tails.{HasTail, tail_of};
+    ghost use Rattle.std.specs.Prelude.{◌≡◌, None};
+    ghost use Rattle.rad_audit.specs.Chained.{HasLineSum};
 
     /// Returns what the end of a line says, which is given without its line end, if it ends with a sum.
     pub fn of(line: &[u8]) -> Option<LineSum>
-        ensures { MatchOption result (¬ HasTail (line.now ++ 10 ∷ [])) (λ its. (body : List ℕ) × (line.now ++ 10 ∷ [] ≡ body ++ tail_of its.sum) × (its.digest ≡ Some (sha256 body))) }
+        ensures { HasLineSum line.now result }
     {
         let found = split_sum(line)?;
         let sum = found.1;

@@ -1,8 +1,10 @@
 //! Reading the lines of a file into a room of fixed size.
 
+ghost use Rattle.std.specs.Prelude.{◌≡◌};
+
 use ledger_lines::MOST_LINE_OCTETS;
 use memchr::memchr;
-use std::alloc::{AllocError, Global};
+use std::alloc::Global;
 use std::io::{BufRead, ErrorKind, Result};
 
 /// What was read of a file.
@@ -25,19 +27,17 @@ pub struct LineRoom {
 }
 
 impl LineRoom {
-    /// Allocates the room.
-    ///
-    /// # Errors
-    ///
-    /// `AllocError` if memory is refused.
-    pub fn new(alloc: Global) -> std::result::Result<LineRoom, AllocError> {
-        Ok(LineRoom {
-            octets: Vec::with_capacity(alloc, MOST_LINE_OCTETS + 1)?,
-        })
+    /// Returns a room without a line. It grows with the longest line that is read into it.
+    pub fn new(alloc: Global) -> LineRoom {
+        LineRoom {
+            octets: Vec::new(alloc),
+        }
     }
 
     /// Returns the line.
-    pub fn as_slice(&self) -> &[u8] {
+    pub fn as_slice(&self) -> &[u8]
+        ensures { result.now ≡ self.now.octets.items }
+    {
         self.octets.as_slice()
     }
 

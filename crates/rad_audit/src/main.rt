@@ -3,6 +3,7 @@
 #![tactic(auto)]
 
 mod auditing;
+mod blocks;
 mod cells;
 mod chains;
 mod facts;
@@ -10,6 +11,7 @@ mod faults;
 mod files;
 mod hidden;
 mod hints;
+mod judging;
 mod kept_sums;
 mod line_room;
 mod named_file;
@@ -38,6 +40,7 @@ use std::env::{self, Env};
 use std::io::{self, BufWriter, Error, ErrorKind, Print, Write};
 use std::process::ExitCode;
 use std::rt::{Files, Runtime};
+use std::thread::Threads;
 use streams::Stream;
 use words::{Wanted, Words, read_words};
 
@@ -54,7 +57,7 @@ fn main(rt: HostRuntime) -> ExitCode {
     ExitCode::from(status)
 }
 
-fn obey_words<R: Runtime + AllocGlobal>(rt: &R) -> Result<u8, Fault>
+fn obey_words<R: Runtime + Threads + Sync + AllocGlobal>(rt: &R) -> Result<u8, Fault>
 where
     R::File: Drop,
     ensures { IfOk result IsStatus }
@@ -64,7 +67,11 @@ where
 }
 
 /// Does what these words ask for, the program's own name first, and returns the status.
-fn obey_arguments<R: Runtime>(rt: &R, alloc: Global, arguments: &[String]) -> Result<u8, Fault>
+fn obey_arguments<R: Runtime + Threads + Sync>(
+    rt: &R,
+    alloc: Global,
+    arguments: &[String],
+) -> Result<u8, Fault>
 where
     R::File: Drop,
     ensures { IfOk result IsStatus }
@@ -86,7 +93,11 @@ fn print_text<R: Runtime>(rt: &R, text: &clap::Error) -> Result<u8, Fault>
 
 /// Audits the files that these words name, and returns the status. It prints what it finds on standard output. If rows are
 /// asked for, it prints them there, and what it finds on standard error.
-fn audit_words<R: Runtime>(rt: &R, alloc: Global, words: Words<'_>) -> Result<u8, Fault>
+fn audit_words<R: Runtime + Threads + Sync>(
+    rt: &R,
+    alloc: Global,
+    words: Words<'_>,
+) -> Result<u8, Fault>
 where
     R::File: Drop,
     ensures { IfOk result IsStatus }

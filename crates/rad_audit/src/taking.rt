@@ -1,16 +1,18 @@
 //! What becomes of an entry, and of a request that was left.
 
-ghost use Rattle.std.specs.Prelude.{◌≡◌, ◌<◌, ◌^◌, false, IfErr, IfOk, IsTrue, MatchOption, None, option_copied};
+ghost use Rattle.std.specs.Prelude.{◌≡◌, false, IfErr, IfOk, IsTrue, MatchOption, None, option_copied};
 ghost use Rattle.ledger_rules.specs.Judging.{IsWrong};
 ghost use Rattle.ledger_rules.specs.Leaving.{IsWronglyLeft};
 ghost use Rattle.ledger_rules.specs.Numbers.{IsAsBefore, IsKnown};
 ghost use Rattle.ledger_rules.specs.declared.reason.Reason.TheVariants.{UnknownRecord};
-ghost use Rattle.rad_audit.specs.Taking.{LacksRecord, Leaves, Takes};
+ghost use Rattle.rad_audit.specs.Judging.{IsJudged};
+ghost use Rattle.rad_audit.specs.Taking.{IsRightInPlace, IsWrongEntry, LacksRecord, Leaves, Takes};
 
+use crate::judging::{Alone, JudgedEntry};
 use crate::wording::{LineWords, are_words_of};
-use ledger_rules::{Account, Entry, Gap, Left, Reason, RecordCount, Tally, judge, judge_left};
+use ledger_rules::{Account, Gap, Left, Reason, RecordCount, Tally, judge_left};
 use rad_auth::Secret;
-use std::alloc::{AllocError, Global};
+use std::alloc::AllocError;
 
 /// What became of an entry.
 #[derive(Clone, Copy)]
@@ -28,25 +30,18 @@ pub enum TakenEntry {
 ///
 /// `AllocError` if memory is refused.
 pub fn take_entry(
-    alloc: Global,
-    entry: &Entry<'_>,
-    home: Option<&Secret>,
-    client: Option<&Secret>,
+    judged: &JudgedEntry<'_>,
     tally: &mut Tally,
     account: &mut Account,
 ) -> Result<TakenEntry, AllocError>
-    requires { entry.now.serial < 2 ^ 63 }
-    ensures taken { IfOk result (λ taken. Takes entry.now (option_copied home.entry) (option_copied client.entry) tally.old account.old taken tally.new account.new) }
+    requires { IsJudged judged.now }
+    ensures taken { IfOk result (λ taken. Takes judged.now.entry (option_copied judged.now.home) (option_copied judged.now.client) tally.old account.old taken tally.new account.new) }
     ensures refused { IfErr result (λ _. (tally.new ≡ tally.old) × IsAsBefore account.old.numbers account.new.numbers) }
 {
-    let next = Some(tally.next());
-    let twice = account.has(entry.about.number);
-    if let Some(reason) = judge(alloc, entry, home, client, next, twice)? {
+    if let Some(reason) = wrong_in_place(judged, tally, account) {
         return Ok(TakenEntry::Wrong(reason));
     }
-    if !are_words_of(entry.sent, LineWords::of(&entry.about)) {
-        return Ok(TakenEntry::Wrong(Reason::WrongWords));
-    }
+    let entry = &judged.entry;
     if !account.answer(entry.about.number)? {
         return Ok(TakenEntry::Wrong(Reason::RecordTwice));
     }
@@ -56,22 +51,31 @@ pub fn take_entry(
     }
 }
 
-/// Returns what is wrong with an entry of a lane that its run does not name.
-///
-/// # Errors
-///
-/// `AllocError` if memory is refused.
-pub fn judge_stray(
-    alloc: Global,
-    entry: &Entry<'_>,
-    home: Option<&Secret>,
-    client: Option<&Secret>,
-) -> Result<Reason, AllocError>
-    ensures { IfOk result (λ reason. IsWrong entry.now (option_copied home.entry) (option_copied client.entry) None (IsTrue false) reason) }
+/// Returns the first thing that is wrong with an entry behind those of its lane, if anything is.
+#[tactic(auto, using(crate::proofs::Alone::wrong_entry))]
+fn wrong_in_place(judged: &JudgedEntry<'_>, tally: &Tally, account: &Account) -> Option<Reason>
+    requires { IsJudged judged.now }
+    ensures { MatchOption result (IsRightInPlace judged.now.entry (option_copied judged.now.home) (option_copied judged.now.client) tally.now account.now) (λ reason. IsWrongEntry judged.now.entry (option_copied judged.now.home) (option_copied judged.now.client) tally.now account.now reason) }
 {
-    match judge(alloc, entry, home, client, None, false)? {
-        Some(reason) => Ok(reason),
-        None => Ok(Reason::UnknownLane),
+    let entry = &judged.entry;
+    match judged.alone {
+        Alone::Wrong(reason) => Some(reason),
+        _ if entry.serial < tally.next() => Some(Reason::SerialNotAbove),
+        _ if account.has(entry.about.number) => Some(Reason::RecordTwice),
+        Alone::OtherWords => Some(Reason::WrongWords),
+        Alone::Right => None,
+    }
+}
+
+/// Returns what is wrong with an entry of a lane that its run does not name.
+#[tactic(auto, using(crate::proofs::Alone::wrong_stray))]
+pub fn judge_stray(judged: &JudgedEntry<'_>) -> Reason
+    requires { IsJudged judged.now }
+    ensures { IsWrong judged.now.entry (option_copied judged.now.home) (option_copied judged.now.client) None (IsTrue false) result }
+{
+    match judged.alone {
+        Alone::Wrong(reason) => reason,
+        _ => Reason::UnknownLane,
     }
 }
 

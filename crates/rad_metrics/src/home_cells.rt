@@ -5,10 +5,10 @@ ghost use Rattle.rad_metrics.specs.Times.{IsSince1970};
 
 use crate::home_metric::Reading;
 use crate::home_times::HomeTimes;
-use rad_desk::{Standing, WorkerReport};
+use rad_desk::Standing;
 use rad_lane::Counts;
 use rad_realms::{Home, LimitNumbers};
-use rad_tables::Moment;
+use rad_tables::{Moment, Slot};
 use std::alloc::{AllocError, Global};
 use std::sync::atomic::{AtomicBool, AtomicU64, Ordering};
 use std::sync::{Mutex, Wait};
@@ -50,43 +50,39 @@ impl HomeCell {
         })
     }
 
-    /// Records what its worker reports of it, or the front. The front's turn began `front` microseconds after the start, that
-    /// of its worker `turn` microseconds after it, and this number of Accounting-Requests were sent to it.
-    pub(crate) fn report(&self, report: &WorkerReport<'_>, front: u64, turn: u64, sent: u64) {
-        let time = turn / 1000;
-        match *report {
-            WorkerReport::Accepted { number, .. } => self.times.was_accepted(number, front),
-            WorkerReport::FirstSent { number, slot } => {
-                self.times.first_sent(number, slot, front, turn);
-            }
-            WorkerReport::Answered { serial, slot, .. } => {
-                self.times.replied(serial, slot, turn);
-                self.last_answer.store(time + 1, Ordering::SeqCst);
-            }
-            WorkerReport::Took { serial, .. } => self.times.left(serial, front),
-            WorkerReport::WentDown(_) => {
-                self.since.store(time, Ordering::SeqCst);
-                self.down.begin(turn);
-            }
-            WorkerReport::WentUp(_) => {
-                self.since.store(time, Ordering::SeqCst);
-                self.down.end(turn);
-            }
-            WorkerReport::Stands { moment, standing } => {
-                self.set_standing(Reading {
-                    limits: self.limits,
-                    standing,
-                    moment,
-                    told: time,
-                    since: self.since.load(Ordering::SeqCst),
-                    down: self.down.until(turn) / 1000,
-                    last_answer: self.last_answer.load(Ordering::SeqCst),
-                    sent,
-                    oldest_outstanding: self.times.oldest(turn),
-                });
-            }
-            _ => {}
-        }
+    /// Records that it answered a request, of this pair, under this serial. The turn of its worker began `turn` microseconds
+    /// after the start.
+    pub(crate) fn answered(&self, serial: u64, slot: Slot, turn: u64) {
+        self.times.replied(serial, slot, turn);
+        self.last_answer.store(turn / 1000 + 1, Ordering::SeqCst);
+    }
+
+    /// Records that it is marked down in a turn of its worker that began `turn` microseconds after the start.
+    pub(crate) fn went_down(&self, turn: u64) {
+        self.since.store(turn / 1000, Ordering::SeqCst);
+        self.down.begin(turn);
+    }
+
+    /// Records that it is marked up in a turn of its worker that began `turn` microseconds after the start.
+    pub(crate) fn went_up(&self, turn: u64) {
+        self.since.store(turn / 1000, Ordering::SeqCst);
+        self.down.end(turn);
+    }
+
+    /// Records how its lane stands at a moment, in a turn of its worker that began `turn` microseconds after the start, and
+    /// that this number of Accounting-Requests were sent to it.
+    pub(crate) fn stands(&self, moment: Moment, standing: Standing, turn: u64, sent: u64) {
+        self.set_standing(Reading {
+            limits: self.limits,
+            standing,
+            moment,
+            told: turn / 1000,
+            since: self.since.load(Ordering::SeqCst),
+            down: self.down.until(turn) / 1000,
+            last_answer: self.last_answer.load(Ordering::SeqCst),
+            sent,
+            oldest_outstanding: self.times.oldest(turn),
+        });
     }
 
     /// Asks its worker to report the standing of its lane.
@@ -156,20 +152,6 @@ fn down_until(before: u64, since: u64, now: u64) -> u64
     } else {
         before.saturating_add(now.saturating_sub(since))
     }
-}
-
-/// Returns whether the cell of a home server records this report.
-pub(crate) fn is_of_home(report: &WorkerReport<'_>) -> bool {
-    matches!(
-        report,
-        WorkerReport::Accepted { .. }
-            | WorkerReport::FirstSent { .. }
-            | WorkerReport::Answered { .. }
-            | WorkerReport::Took { .. }
-            | WorkerReport::WentDown(_)
-            | WorkerReport::WentUp(_)
-            | WorkerReport::Stands { .. }
-    )
 }
 
 fn since_1970(read: Reading, started: u64) -> Reading

@@ -5,7 +5,7 @@ ghost use Rattle.rad_metrics.specs.Times.{IsStartBy};
 use crate::counted::Counted;
 use crate::counts::{APART, Counts, atomics, word_or_0};
 use crate::event::{Classified, CountedEvent, worker_row};
-use crate::home_cells::{HomeCell, home_cells, is_of_home};
+use crate::home_cells::{HomeCell, home_cells};
 use crate::own_process::ProcessReading;
 use crate::program_metrics::ProgramReading;
 use crate::realm_numbers::RealmNumbers;
@@ -83,22 +83,43 @@ impl<'a, R: Clock> Numbers<'a, R> {
             self.count_of_client(its);
         }
         match *report {
-            WorkerReport::Woke => self.begin_turn(row),
+            WorkerReport::Woke => self.begin_turn(its.worker),
             WorkerReport::Requested { lane, rank } => self.realms.count(lane, rank),
             WorkerReport::RequestedUnlisted { .. } => self.realms.count_unlisted(),
-            _ => {}
-        }
-        if !is_of_home(report) {
-            return;
-        }
-        if let Some(home) = row.checked_sub(1).and_then(|lane| self.homes.get(lane)) {
-            let sent = self.counts.get(row, CountedEvent::plain(Counted::Sent));
-            home.report(report, self.turn(0), self.turn(row), sent);
+            _ => {
+                if let Some(home) = row.checked_sub(1).and_then(|lane| self.homes.get(lane)) {
+                    self.report_of_home(home, report, row);
+                }
+            }
         }
     }
 
-    fn begin_turn(&self, row: usize) {
-        if let Some(turn) = self.turn_word(row) {
+    /// Records what is reported of the home server in this row. Each time is read only where it is recorded: the front's
+    /// is written by another thread than that of a lane's worker.
+    fn report_of_home(&self, home: &HomeCell, report: &WorkerReport<'_>, row: usize) {
+        match *report {
+            WorkerReport::Accepted { number, .. } => home.times.was_accepted(number, self.turn(0)),
+            WorkerReport::FirstSent { number, slot } => {
+                home.times
+                    .first_sent(number, slot, self.turn(0), self.turn(row));
+            }
+            WorkerReport::Answered { serial, slot, .. } => {
+                home.answered(serial, slot, self.turn(row));
+            }
+            WorkerReport::Took { serial, .. } => home.times.left(serial, self.turn(0)),
+            WorkerReport::WentDown(_) => home.went_down(self.turn(row)),
+            WorkerReport::WentUp(_) => home.went_up(self.turn(row)),
+            WorkerReport::Stands { moment, standing } => {
+                let sent = self.counts.get(row, CountedEvent::plain(Counted::Sent));
+                home.stands(moment, standing, self.turn(row), sent);
+            }
+            _ => {}
+        }
+    }
+
+    /// Records that a turn of a worker begins, which is all that its report says.
+    pub fn begin_turn(&self, worker: Worker) {
+        if let Some(turn) = self.turn_word(worker_row(worker)) {
             turn.store(self.microseconds(), Ordering::SeqCst);
         }
     }

@@ -1,1 +1,4 @@
+pub mod Accounts
+pub mod Keeping
 pub mod Reserved
+pub mod SocketLists

@@ -57,6 +57,9 @@ impl Sums {
         let (Some(event), Some(peer)) = (its.event, its.peer) else {
             return;
         };
+        if !SUMMED.contains(&event.metric) {
+            return;
+        }
         self.peers.swap(its.row, event, word_of(peer));
         match *its.report {
             WorkerReport::Marked { marks, .. } => {

@@ -115,6 +115,9 @@ impl<L: Log, R: Clock> Gate for Telemetry<'_, L, R> {
     }
 
     fn report(&self, worker: Worker, report: &WorkerReport<'_>) {
+        if let WorkerReport::Woke = report {
+            return self.numbers.begin_turn(worker);
+        }
         let its = Classified::of(worker, report);
         self.sums.keep(&its);
         self.numbers.report(&its);

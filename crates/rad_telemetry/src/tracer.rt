@@ -202,7 +202,7 @@ fn subject_of<'a>(worker: Worker, report: &WorkerReport<'a>) -> Option<Subject<'
 }
 
 /// Returns the subject of a datagram of a client, which has a user and a session if it is a packet that has them.
-pub(crate) fn subject_of_packet(client: [u8; 4], octets: &[u8]) -> Subject<'_> {
+fn subject_of_packet(client: [u8; 4], octets: &[u8]) -> Subject<'_> {
     match read(octets) {
         Ok(packet) => Subject {
             client,

@@ -1,11 +1,13 @@
 -- What counts of entries.
-use Rattle.std.proofs.Common.{◌≡◌, ℕ, suc, ◌+◌, ◌-◌, ◌≤◌, leb, Bool, true, false, cond, not, ◌&&◌, ◌||◌, eqb, List, [], ◌∷◌, ◌++◌, length, Option, Some, None, refl, sym, ap, ◌∙◌, arith, length-append, subst}
+use Rattle.std.proofs.Common.{◌≡◌, ℕ, ◌+◌, ◌-◌, ◌*◌, ◌≤◌, leb, ltb, Bool, true, false, cond, not, ◌&&◌, ◌||◌, List, [], ◌∷◌, ◌++◌, Option, Some, None, refl, sym, ap, ◌∙◌, arith, subst}
 use Rattle.std.proofs.lemmas.Bool.Decides.{nat_tests}
-use Rattle.std.proofs.lemmas.List.{append-nil, append_assoc}
+use Rattle.std.proofs.lemmas.List.{append-nil, append_assoc, reverse-append, reverse-reverse}
 use Rattle.std.proofs.lemmas.List.Elements.{filter-append}
 use Rattle.std.proofs.lemmas.List.Folds.{list_any-append}
 use Rattle.std.proofs.lemmas.Cmp.{eq_by_cmp_equiv}
-use Rattle.std.specs.List.{filter, list_any}
+use Rattle.std.specs.Prelude.{reverse, is_some}
+use Rattle.std.specs.List.{filter, AllByRecursion}
+use Rattle.std.specs.FinMap as table
 use Rattle.std.specs.Ordering.{eq_by_cmp}
 use Rattle.rad_tables.specs.declared.duplicates.Key.{Key}
 use Rattle.rad_tables.specs.Keys.{key_cmp}
@@ -14,9 +16,7 @@ use Rattle.spool_files.specs.declared.entry.Head.{Head}
 use Rattle.spool_files.specs.declared.entry.Head.TheVariants as heads
 use Rattle.spool_files.specs.declared.counting.Counted.{Counted}
 use Rattle.spool_files.specs.Entries.{Entry}
-use Rattle.spool_files.specs.Places.{key_of, is_key, behind_or, last_place, is_at, is_open, is_remembered}
-use Rattle.spool_files.specs.Counting.{has_about, is_last, last_of, is_request, is_answer_within, open_before, answers_before, open_of, answers_of, request_entries, answer_entries, Counts, RemovalKeeps, WritingOnceMoreKeeps, OpensInParts}
-use Rattle.spool_files.proofs.PlaceLemmas.{stays_open, stays_remembered}
+use Rattle.spool_files.specs.Counting.{key_of, is_key, has_about, is_last, last_of, is_request, is_answer_within, open_before, answers_before, open_of, answers_of, request_entries, answer_entries, Knows, Counts, RemovalKeeps, WritingOnceMoreKeeps, InParts, Closes, Size, total_of, within_of, OldestIsPast, AnsweredBy, PastCanGo}
 
 -- ---- the last entries of a list in two parts
 
@@ -35,114 +35,91 @@ pub kept_append : (test : Entry → Bool) (older newer later : List Entry) → f
 kept_append test older newer later =
     ap (filter test) (last_append older newer later) ∙ filter-append test (last_of older (newer ++ later)) (last_of newer later)
 
-pub kept_parts : (test : Entry → Bool) (older newer : List Entry) → filter test (last_of (older ++ newer) []) ≡ filter test (last_of older newer) ++ filter test (last_of newer [])
+pub kept_parts : (test : Entry → Bool) → InParts test
 kept_parts test older newer =
     kept_append test older newer [] ∙ ap (λ (rest : List Entry). filter test (last_of older rest) ++ filter test (last_of newer [])) (append-nil newer)
 
-pub opens_in_parts : OpensInParts
-opens_in_parts older newer = kept_parts is_request older newer
-
 pub removal : (now span : ℕ) (oldest newer : List Entry) → open_before oldest newer ≡ [] → answers_before now span oldest newer ≡ [] → RemovalKeeps now span oldest newer
 removal now span oldest newer none_open none_kept = record {
-  requests = opens_in_parts oldest newer ∙ ap (λ (xs : List Entry). xs ++ open_of newer) none_open;
+  requests = kept_parts is_request oldest newer ∙ ap (λ (xs : List Entry). xs ++ open_of newer) none_open;
   answers = kept_parts (is_answer_within now span) oldest newer ∙ ap (λ (xs : List Entry). xs ++ answers_of now span newer) none_kept;
 }
 
--- ---- an entry that is counted
+pub none_reversed : (entries : List Entry) → reverse entries ≡ [] → entries ≡ []
+none_reversed entries none = sym (reverse-reverse entries) ∙ ap reverse none
 
-abbrev is_nothing : Option ℕ → Bool
-is_nothing (Some place) = false
-is_nothing None = true
-
-no_suc : (n : ℕ) → eqb (suc n) 0 ≡ false
-no_suc n = grind (arith, nat_tests)
-
-at_front : (o : Option ℕ) → is_at (behind_or o true) 0 ≡ is_nothing o
-at_front (Some place) = no_suc place
-at_front None = refl
-
-none_behind : (key : Key) (later : List Entry) → is_nothing (last_place key later) ≡ not (has_about key later)
-none_behind key [] = refl
-none_behind key (entry ∷ later) = one (is_key key (key_of entry.0)) (last_place key later) (has_about key later) (none_behind key later)
-  where
-    one : (b : Bool) (o : Option ℕ) (h : Bool) → is_nothing o ≡ not h → is_nothing (behind_or o b) ≡ not (b || h)
-    one true (Some place) h is = refl
-    one true None h is = refl
-    one false (Some place) h is = is
-    one false None h is = is
+-- ---- the keys that are known
 
 pub itself : (key : Key) → is_key key (Some key) ≡ true
 itself key = (eq_by_cmp_equiv keys_total).refl key
 
-first_is_last : (key : Key) (later : List Entry) → is_at (behind_or (last_place key later) (is_key key (Some key))) 0 ≡ not (has_about key later)
-first_is_last key later = ap (λ (b : Bool). is_at (behind_or (last_place key later) b) 0) (itself key) ∙ at_front (last_place key later) ∙ none_behind key later
+none_some : (key : Key) → None ≡ Some key → ⊥
+none_some key e = absurd cc
 
-open_first : (head : Head) (text : List ℕ) (later : List Entry) → is_open ((head, text) ∷ later) 0 head ≡ (is_request (head, text) && is_last head later)
-open_first (heads.Begun b) text later = refl
-open_first (heads.Came c) text later = first_is_last c.key later
-open_first (heads.Answered a) text later = refl
-open_first (heads.GivenUp g) text later = refl
+same_key : (one other : Key) → Some one ≡ Some other → one ≡ other
+same_key one other e = cc
 
-swapped : (b c : Bool) → (b && c) ≡ (c && b)
-swapped true true = refl
-swapped true false = refl
-swapped false true = refl
-swapped false false = refl
+pub last_if : (head : Head) (key : Key) (later : List Entry) → key_of head ≡ Some key → is_last head later ≡ not (has_about key later)
+last_if (heads.Begun b) key later is = absurd (none_some key is)
+last_if (heads.Came c) key later is = ap (λ (k : Key). not (has_about k later)) (same_key c.key key is)
+last_if (heads.Answered a) key later is = ap (λ (k : Key). not (has_about k later)) (same_key a.key key is)
+last_if (heads.GivenUp g) key later is = ap (λ (k : Key). not (has_about k later)) (same_key g.key key is)
 
-remembered_first : (now span : ℕ) (head : Head) (text : List ℕ) (later : List Entry) → is_remembered now span ((head, text) ∷ later) 0 head ≡ (is_answer_within now span (head, text) && is_last head later)
-remembered_first now span (heads.Begun b) text later = refl
-remembered_first now span (heads.Came c) text later = refl
-remembered_first now span (heads.Answered a) text later =
-    ap (λ (b : Bool). b && leb (now - a.moment) span) (first_is_last a.key later) ∙ swapped (not (has_about a.key later)) (leb (now - a.moment) span)
-remembered_first now span (heads.GivenUp g) text later = refl
+some_none : (key : Key) → Some key ≡ None → ⊥
+some_none key e = absurd cc
 
-kept_one : (test : Entry → Bool) (entry : Entry) (last : Bool) → filter test (cond last (entry ∷ []) []) ≡ cond (test entry && last) (entry ∷ []) []
-kept_one test entry true = one (test entry)
+pub last_of_none : (head : Head) (later : List Entry) → key_of head ≡ None → is_last head later ≡ false
+last_of_none (heads.Begun b) later none = refl
+last_of_none (heads.Came c) later none = absurd (some_none c.key none)
+last_of_none (heads.Answered a) later none = absurd (some_none a.key none)
+last_of_none (heads.GivenUp g) later none = absurd (some_none g.key none)
+
+pub none_known : (known : table.FinMap key_cmp ℕ) → known ≡ table.empty → Knows known []
+none_known known none = λ key. ap (λ m. is_some (table.get m key)) none ∙ ap is_some (table.get-empty key_cmp key)
+
+pub noted : (old new : table.FinMap key_cmp ℕ) (key : Key) (entries : List Entry) (head : Head) (text : List ℕ) → key_of head ≡ Some key → new ≡ table.insert old key 0 → Knows old entries → Knows new ((head, text) ∷ entries)
+noted old new key entries head text about inserted knows = λ other.
+    ap (λ m. is_some (table.get m other)) inserted
+    ∙ ap is_some (table.get-insert keys_total old key 0 other)
+    ∙ one (eq_by_cmp key_cmp other key) (table.get old other)
+    ∙ ap (λ (b : Bool). eq_by_cmp key_cmp other key || b) (knows other)
+    ∙ ap (λ (k : Option Key). is_key other k || has_about other entries) (sym about)
   where
-    one : (b : Bool) → cond b (entry ∷ []) [] ≡ cond (b && true) (entry ∷ []) []
+    one : (b : Bool) (o : Option ℕ) → is_some (cond b (Some 0) o) ≡ (b || is_some o)
+    one true o = refl
+    one false o = refl
+
+pub not_noted : (known : table.FinMap key_cmp ℕ) (entries : List Entry) (head : Head) (text : List ℕ) → key_of head ≡ None → Knows known entries → Knows known ((head, text) ∷ entries)
+not_noted known entries head text about knows = λ other. knows other ∙ ap (λ (k : Option Key). is_key other k || has_about other entries) (sym about)
+
+-- ---- an entry that is counted
+
+kept_step : (test : Entry → Bool) (entry : Entry) (last : Bool) (entries : List Entry) → filter test (cond last (entry ∷ entries) entries) ≡ cond (test entry && last) (entry ∷ filter test entries) (filter test entries)
+kept_step test entry true entries = one (test entry)
+  where
+    one : (b : Bool) → cond b (entry ∷ filter test entries) (filter test entries) ≡ cond (b && true) (entry ∷ filter test entries) (filter test entries)
     one true = refl
     one false = refl
-kept_one test entry false = one (test entry)
+kept_step test entry false entries = one (test entry)
   where
-    one : (b : Bool) → [] ≡ cond (b && false) (entry ∷ []) []
+    one : (b : Bool) → filter test entries ≡ cond (b && false) (entry ∷ filter test entries) (filter test entries)
     one true = refl
     one false = refl
 
--- a test that, by a place among all entries, tells whether one passes it and is the last about its request
-counted_by : (test : Entry → Bool) (tells : List Entry → ℕ → Head → Bool)
-    → ((older newer : List Entry) (place : ℕ) (head : Head) → tells (older ++ newer) (length older + place) head ≡ tells newer place head)
-    → ((head : Head) (text : List ℕ) (later : List Entry) → tells ((head, text) ∷ later) 0 head ≡ (test (head, text) && is_last head later))
-    → (gone done later : List Entry) (head : Head) (text : List ℕ)
-    → filter test (last_of (done ++ (head, text) ∷ []) later)
-    ≡ filter test (last_of done ((head, text) ∷ later)) ++ cond (tells (gone ++ (done ++ (head, text) ∷ later)) (length gone + length done) head) ((head, text) ∷ []) []
-counted_by test tells shifts first gone done later head text =
-    let zero_more : length done ≡ length done + 0 = omega arith in
-    let here : tells (gone ++ (done ++ (head, text) ∷ later)) (length gone + length done) head ≡ (test (head, text) && is_last head later) =
-    shifts gone (done ++ (head, text) ∷ later) (length done) head
-    ∙ ap (λ (n : ℕ). tells (done ++ (head, text) ∷ later) n head) zero_more
-    ∙ shifts done ((head, text) ∷ later) 0 head
-    ∙ first head text later in
-    kept_append test done ((head, text) ∷ []) later
-    ∙ ap (λ (xs : List Entry). filter test (last_of done ((head, text) ∷ later)) ++ xs) (kept_one test (head, text) (is_last head later) ∙ ap (λ (b : Bool). cond b ((head, text) ∷ []) []) (sym here))
+reversed : (c : Bool) (entry : Entry) (entries : List Entry) → reverse entries ++ cond c (entry ∷ []) [] ≡ reverse (cond c (entry ∷ entries) entries)
+reversed true entry entries = sym (reverse-append (entry ∷ []) entries)
+reversed false entry entries = append-nil (reverse entries)
 
-pub counted_next : (now span : ℕ) (old new : Counted) (gone done later : List Entry) (head : Head) (text : List ℕ) → Counts now span old gone done ((head, text) ∷ later)
-    → new.place ≡ old.place + 1
-    → request_entries new.requests.items ≡ request_entries old.requests.items ++ cond (is_open (gone ++ (done ++ (head, text) ∷ later)) old.place head) ((head, text) ∷ []) []
-    → answer_entries new.answers.items ≡ answer_entries old.answers.items ++ cond (is_remembered now span (gone ++ (done ++ (head, text) ∷ later)) old.place head) ((head, text) ∷ []) []
-    → Counts now span new gone (done ++ (head, text) ∷ []) later
-counted_next now span old new gone done later head text counts next opened kept = record {
-  place = omega (arith, next, counts.place, length-append done ((head, text) ∷ []));
-  requests =
-      opened
-      ∙ ap (λ (xs : List Entry). xs ++ cond (is_open (gone ++ (done ++ (head, text) ∷ later)) old.place head) ((head, text) ∷ []) []) counts.requests
-      ∙ ap (λ (n : ℕ). open_before done ((head, text) ∷ later) ++ cond (is_open (gone ++ (done ++ (head, text) ∷ later)) n head) ((head, text) ∷ []) []) counts.place
-      ∙ sym (counted_by is_request is_open stays_open open_first gone done later head text);
-  answers =
-      kept
-      ∙ ap (λ (xs : List Entry). xs ++ cond (is_remembered now span (gone ++ (done ++ (head, text) ∷ later)) old.place head) ((head, text) ∷ []) []) counts.answers
-      ∙ ap (λ (n : ℕ). answers_before now span done ((head, text) ∷ later) ++ cond (is_remembered now span (gone ++ (done ++ (head, text) ∷ later)) n head) ((head, text) ∷ []) []) counts.place
-      ∙ sym (counted_by (is_answer_within now span) (is_remembered now span) (stays_remembered now span) (remembered_first now span) gone done later head text);
-}
+-- what is pushed if an entry passes a test and is the last about its request
+pushed : (test : Entry → Bool) (head : Head) (text : List ℕ) (done later old new : List Entry) → old ≡ reverse (filter test (last_of done later))
+    → new ≡ old ++ cond (test (head, text) && is_last head (done ++ later)) ((head, text) ∷ []) []
+    → new ≡ reverse (filter test (last_of ((head, text) ∷ done) later))
+pushed test head text done later old new was is =
+    let counts : Bool = test (head, text) && is_last head (done ++ later) in
+    is
+    ∙ ap (λ (xs : List Entry). xs ++ cond counts ((head, text) ∷ []) []) was
+    ∙ reversed counts (head, text) (filter test (last_of done later))
+    ∙ ap reverse (sym (kept_step test (head, text) (is_last head (done ++ later)) (last_of done later)))
 
 nothing_more : (old : List Entry) (b : Bool) (entry : Entry) → b ≡ false → old ≡ old ++ cond b (entry ∷ []) []
 nothing_more old b entry not = sym (ap (λ (c : Bool). old ++ cond c (entry ∷ []) []) not ∙ append-nil old)
@@ -150,36 +127,43 @@ nothing_more old b entry not = sym (ap (λ (c : Bool). old ++ cond c (entry ∷ 
 one_more : (old : List Entry) (b : Bool) (entry : Entry) → b ≡ true → old ++ entry ∷ [] ≡ old ++ cond b (entry ∷ []) []
 one_more old b entry is = sym (ap (λ (c : Bool). old ++ cond c (entry ∷ []) []) is)
 
+pub and_false : (b c : Bool) → c ≡ false → (b && c) ≡ false
+and_false true c is = is
+and_false false c is = refl
+
 -- an entry of another kind, or one that does not count, is passed by
-pub passed_by : (now span : ℕ) (old new : Counted) (gone done later : List Entry) (head : Head) (text : List ℕ) → Counts now span old gone done ((head, text) ∷ later)
-    → new.place ≡ old.place + 1 → new.requests ≡ old.requests → new.answers ≡ old.answers
-    → is_open (gone ++ (done ++ (head, text) ∷ later)) old.place head ≡ false
-    → is_remembered now span (gone ++ (done ++ (head, text) ∷ later)) old.place head ≡ false
-    → Counts now span new gone (done ++ (head, text) ∷ []) later
-passed_by now span old new gone done later head text counts next same_requests same_answers not_open not_kept =
-    counted_next now span old new gone done later head text counts next
-    (ap (λ v. request_entries v.items) same_requests ∙ nothing_more (request_entries old.requests.items) _ (head, text) not_open)
-    (ap (λ v. answer_entries v.items) same_answers ∙ nothing_more (answer_entries old.answers.items) _ (head, text) not_kept)
+pub passed_by : (now span : ℕ) (old new : Counted) (done later : List Entry) (head : Head) (text : List ℕ) → Counts now span old done later
+    → Knows new.known ((head, text) ∷ (done ++ later)) → new.requests ≡ old.requests → new.answers ≡ old.answers
+    → (is_request (head, text) && is_last head (done ++ later)) ≡ false
+    → (is_answer_within now span (head, text) && is_last head (done ++ later)) ≡ false
+    → Counts now span new ((head, text) ∷ done) later
+passed_by now span old new done later head text counts known same_requests same_answers not_open not_kept = record {
+  known = known;
+  requests = pushed is_request head text done later _ _ counts.requests (ap (λ v. request_entries v.items) same_requests ∙ nothing_more _ _ (head, text) not_open);
+  answers = pushed (is_answer_within now span) head text done later _ _ counts.answers (ap (λ v. answer_entries v.items) same_answers ∙ nothing_more _ _ (head, text) not_kept);
+}
 
-pub request_counted : (now span : ℕ) (old new : Counted) (gone done later : List Entry) (head : Head) (text : List ℕ) → Counts now span old gone done ((head, text) ∷ later)
-    → new.place ≡ old.place + 1 → request_entries new.requests.items ≡ request_entries old.requests.items ++ (head, text) ∷ [] → new.answers ≡ old.answers
-    → is_open (gone ++ (done ++ (head, text) ∷ later)) old.place head ≡ true
-    → is_remembered now span (gone ++ (done ++ (head, text) ∷ later)) old.place head ≡ false
-    → Counts now span new gone (done ++ (head, text) ∷ []) later
-request_counted now span old new gone done later head text counts next pushed same_answers is not_kept =
-    counted_next now span old new gone done later head text counts next
-    (pushed ∙ one_more (request_entries old.requests.items) _ (head, text) is)
-    (ap (λ v. answer_entries v.items) same_answers ∙ nothing_more (answer_entries old.answers.items) _ (head, text) not_kept)
+pub request_counted : (now span : ℕ) (old new : Counted) (done later : List Entry) (head : Head) (text : List ℕ) → Counts now span old done later
+    → Knows new.known ((head, text) ∷ (done ++ later)) → request_entries new.requests.items ≡ request_entries old.requests.items ++ (head, text) ∷ [] → new.answers ≡ old.answers
+    → (is_request (head, text) && is_last head (done ++ later)) ≡ true
+    → (is_answer_within now span (head, text) && is_last head (done ++ later)) ≡ false
+    → Counts now span new ((head, text) ∷ done) later
+request_counted now span old new done later head text counts known more same_answers is not_kept = record {
+  known = known;
+  requests = pushed is_request head text done later _ _ counts.requests (more ∙ one_more _ _ (head, text) is);
+  answers = pushed (is_answer_within now span) head text done later _ _ counts.answers (ap (λ v. answer_entries v.items) same_answers ∙ nothing_more _ _ (head, text) not_kept);
+}
 
-pub answer_counted : (now span : ℕ) (old new : Counted) (gone done later : List Entry) (head : Head) (text : List ℕ) → Counts now span old gone done ((head, text) ∷ later)
-    → new.place ≡ old.place + 1 → new.requests ≡ old.requests → answer_entries new.answers.items ≡ answer_entries old.answers.items ++ (head, text) ∷ []
-    → is_open (gone ++ (done ++ (head, text) ∷ later)) old.place head ≡ false
-    → is_remembered now span (gone ++ (done ++ (head, text) ∷ later)) old.place head ≡ true
-    → Counts now span new gone (done ++ (head, text) ∷ []) later
-answer_counted now span old new gone done later head text counts next same_requests pushed not_open is =
-    counted_next now span old new gone done later head text counts next
-    (ap (λ v. request_entries v.items) same_requests ∙ nothing_more (request_entries old.requests.items) _ (head, text) not_open)
-    (pushed ∙ one_more (answer_entries old.answers.items) _ (head, text) is)
+pub answer_counted : (now span : ℕ) (old new : Counted) (done later : List Entry) (head : Head) (text : List ℕ) → Counts now span old done later
+    → Knows new.known ((head, text) ∷ (done ++ later)) → new.requests ≡ old.requests → answer_entries new.answers.items ≡ answer_entries old.answers.items ++ (head, text) ∷ []
+    → (is_request (head, text) && is_last head (done ++ later)) ≡ false
+    → (is_answer_within now span (head, text) && is_last head (done ++ later)) ≡ true
+    → Counts now span new ((head, text) ∷ done) later
+answer_counted now span old new done later head text counts known same_requests more not_open is = record {
+  known = known;
+  requests = pushed is_request head text done later _ _ counts.requests (ap (λ v. request_entries v.items) same_requests ∙ nothing_more _ _ (head, text) not_open);
+  answers = pushed (is_answer_within now span) head text done later _ _ counts.answers (more ∙ one_more _ _ (head, text) is);
+}
 
 -- ---- what is written once more
 
@@ -200,18 +184,6 @@ last_both (heads.GivenUp g) xs ys = not_about g.key xs ys
 abbrev AreLast : List Entry → List Entry → Type 0
 AreLast [] later = Unit {0}
 AreLast (entry ∷ entries) later = (is_last entry.0 later ≡ true) × AreLast entries later
-
-kept_step : (test : Entry → Bool) (entry : Entry) (last : Bool) (entries : List Entry) → filter test (cond last (entry ∷ entries) entries) ≡ cond (test entry && last) (entry ∷ filter test entries) (filter test entries)
-kept_step test entry true entries = one (test entry)
-  where
-    one : (b : Bool) → cond b (entry ∷ filter test entries) (filter test entries) ≡ cond (b && true) (entry ∷ filter test entries) (filter test entries)
-    one true = refl
-    one false = refl
-kept_step test entry false entries = one (test entry)
-  where
-    one : (b : Bool) → filter test entries ≡ cond (b && false) (entry ∷ filter test entries) (filter test entries)
-    one true = refl
-    one false = refl
 
 first_true : (b c : Bool) → (b && c) ≡ true → b ≡ true
 first_true true c is = refl
@@ -368,12 +340,12 @@ written_once_more now span oldest newer =
     let copies : List Entry = open_before oldest newer in
     let same : last_of newer copies ≡ last_of newer [] = keeps_newer newer copies (opened_last oldest newer) in
     let without : open_of (newer ++ copies) ≡ open_of newer ++ copies =
-    opens_in_parts newer copies
+    kept_parts is_request newer copies
     ∙ ap (λ (xs : List Entry). filter is_request xs ++ open_of copies) same
     ∙ ap (λ (xs : List Entry). open_of newer ++ xs) (opened_again oldest newer) in
     let none : open_before oldest (newer ++ copies) ≡ [] = closed oldest newer [] in
     record {
-      with_oldest = opens_in_parts oldest (newer ++ copies) ∙ ap (λ (xs : List Entry). xs ++ open_of (newer ++ copies)) none ∙ without;
+      with_oldest = kept_parts is_request oldest (newer ++ copies) ∙ ap (λ (xs : List Entry). xs ++ open_of (newer ++ copies)) none ∙ without;
       without_oldest = without;
       oldest_closed = none;
       answers =
@@ -382,3 +354,100 @@ written_once_more now span oldest newer =
           ∙ ap (λ (xs : List Entry). answers_of now span newer ++ xs) (no_answers now span (last_of oldest newer))
           ∙ append-nil (answers_of now span newer);
     }
+
+-- ---- what an entry closes
+
+in_front : (t a p : Bool) → (t && (a && p)) ≡ (p && (t && a))
+in_front true true true = refl
+in_front true true false = refl
+in_front true false true = refl
+in_front true false false = refl
+in_front false true true = refl
+in_front false true false = refl
+in_front false false true = refl
+in_front false false false = refl
+
+-- filtered once more
+again : (test kept : Entry → Bool) (first : Entry) (last : Bool) (entries : List Entry) → filter kept (filter test (cond last (first ∷ entries) entries)) ≡ cond (kept first && (test first && last)) (first ∷ filter kept (filter test entries)) (filter kept (filter test entries))
+again test kept first last entries =
+    ap (filter kept) (kept_step test first last entries) ∙ kept_step kept first (test first && last) (filter test entries)
+
+earlier : (test : Entry → Bool) (entries : List Entry) (entry : Entry) → filter test (last_of entries (entry ∷ [])) ≡ filter (λ other. is_last other.0 (entry ∷ [])) (filter test (last_of entries []))
+earlier test [] entry = refl
+earlier test (first ∷ entries) entry =
+    let kept : Entry → Bool = λ other. is_last other.0 (entry ∷ []) in
+    let here : Bool = is_last first.0 (entries ++ []) in
+    let xs : List Entry = filter test (last_of entries (entry ∷ [])) in
+    kept_step test first (is_last first.0 (entries ++ entry ∷ [])) (last_of entries (entry ∷ []))
+    ∙ ap (λ (b : Bool). cond (test first && b) (first ∷ xs) xs) (last_both first.0 entries (entry ∷ []))
+    ∙ ap (λ (b : Bool). cond b (first ∷ xs) xs) (in_front (test first) (is_last first.0 entries) (kept first))
+    ∙ ap (λ (es : List Entry). cond (kept first && (test first && is_last first.0 es)) (first ∷ xs) xs) (sym (append-nil entries))
+    ∙ ap (λ (es : List Entry). cond (kept first && (test first && here)) (first ∷ es) es) (earlier test entries entry)
+    ∙ sym (again test kept first here (last_of entries []))
+
+itself_last : (test : Entry → Bool) → ((entry : Entry) → key_of entry.0 ≡ None → test entry ≡ false) → (entry : Entry) → filter test (last_of (entry ∷ []) []) ≡ filter test (entry ∷ [])
+itself_last test begun (heads.Begun b, text) = sym (ap (λ (c : Bool). cond c ((heads.Begun b, text) ∷ []) []) (begun (heads.Begun b, text) refl))
+itself_last test begun (heads.Came c, text) = refl
+itself_last test begun (heads.Answered a, text) = refl
+itself_last test begun (heads.GivenUp g, text) = refl
+
+pub closes_earlier : (test : Entry → Bool) → ((entry : Entry) → key_of entry.0 ≡ None → test entry ≡ false) → Closes test
+closes_earlier test begun entries entry =
+    kept_parts test entries (entry ∷ [])
+    ∙ ap (λ (xs : List Entry). xs ++ filter test (last_of (entry ∷ []) [])) (earlier test entries entry)
+    ∙ ap (λ (xs : List Entry). filter (λ other. is_last other.0 (entry ∷ [])) (filter test (last_of entries [])) ++ xs) (itself_last test begun entry)
+
+pub begun_is_no_request : (entry : Entry) → key_of entry.0 ≡ None → is_request entry ≡ false
+begun_is_no_request (heads.Begun b, text) none = refl
+begun_is_no_request (heads.Came c, text) none = absurd (some_none c.key none)
+begun_is_no_request (heads.Answered a, text) none = refl
+begun_is_no_request (heads.GivenUp g, text) none = refl
+
+pub begun_is_no_answer : (now span : ℕ) (entry : Entry) → key_of entry.0 ≡ None → is_answer_within now span entry ≡ false
+begun_is_no_answer now span (heads.Begun b, text) none = refl
+begun_is_no_answer now span (heads.Came c, text) none = refl
+begun_is_no_answer now span (heads.Answered a, text) none = absurd (some_none a.key none)
+begun_is_no_answer now span (heads.GivenUp g, text) none = refl
+
+-- ---- the octets of all segments
+
+late_too : (now span earlier later : ℕ) → earlier ≤ later → leb (now - earlier) span ≡ true → leb (now - later) span ≡ true
+late_too now span earlier later le is = grind (arith, nat_tests)
+
+all_within : (now span : ℕ) (oldest : Size) (newer : List Size) → AllByRecursion (λ size. oldest.1 ≤ size.1) newer → leb (now - oldest.1) span ≡ true → within_of now span newer ≡ total_of newer
+all_within now span oldest [] after is = refl
+all_within now span oldest (size ∷ newer) after is =
+    ap (λ (b : Bool). cond b size.0 0 + within_of now span newer) (late_too now span oldest.1 size.1 after.0 is)
+    ∙ ap (λ (n : ℕ). size.0 + n) (all_within now span oldest newer after.1 is)
+
+no_more : (a b c n : ℕ) → b ≡ n → ltb (a + b + c) n ≡ true → ⊥
+no_more a b c n is more = grind (arith, nat_tests)
+
+pub oldest_is_past : OldestIsPast
+oldest_is_past now span most counting oldest newer after more = one (leb (now - oldest.1) span) refl
+  where
+    one : (b : Bool) → leb (now - oldest.1) span ≡ b → b ≡ false
+    one true is =
+        absurd (no_more (4 * counting) (within_of now span (oldest ∷ newer)) (3 * most) (total_of (oldest ∷ newer))
+        (ap (λ (b : Bool). cond b oldest.0 0 + within_of now span newer) is ∙ ap (λ (n : ℕ). oldest.0 + n) (all_within now span oldest newer after is)) more)
+    one false is = refl
+
+late_again : (now span earlier later : ℕ) → earlier ≤ later → leb (now - later) span ≡ false → leb (now - earlier) span ≡ false
+late_again now span earlier later le is = grind (arith, nat_tests)
+
+not_within : (now span moment : ℕ) (entry : Entry) → AnsweredBy moment entry → leb (now - moment) span ≡ false → is_answer_within now span entry ≡ false
+not_within now span moment (heads.Begun b, text) by past = refl
+not_within now span moment (heads.Came c, text) by past = refl
+not_within now span moment (heads.Answered a, text) by past = late_again now span a.moment moment by past
+not_within now span moment (heads.GivenUp g, text) by past = refl
+
+none_within : (now span moment : ℕ) (entries later : List Entry) → AllByRecursion (AnsweredBy moment) entries → leb (now - moment) span ≡ false → answers_before now span entries later ≡ []
+none_within now span moment [] later by past = refl
+none_within now span moment (entry ∷ entries) later by past =
+    kept_step (is_answer_within now span) entry (is_last entry.0 (entries ++ later)) (last_of entries later)
+    ∙ ap (λ (b : Bool). cond (b && is_last entry.0 (entries ++ later)) (entry ∷ answers_before now span entries later) (answers_before now span entries later)) (not_within now span moment entry by.0 past)
+    ∙ none_within now span moment entries later by.1 past
+
+pub past_can_go : PastCanGo
+past_can_go now span moment oldest newer by past =
+    removal now span oldest (newer ++ open_before oldest newer) ((written_once_more now span oldest newer).oldest_closed) (none_within now span moment oldest (newer ++ open_before oldest newer) by past)

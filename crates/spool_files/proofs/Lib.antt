@@ -1,11 +1,11 @@
 pub mod AppendLemmas
 pub mod BatchLemmas
 pub mod CallLemmas
+pub mod CheckSumLemmas
 pub mod CountLemmas
 pub mod CrashLemmas
 pub mod EntryLemmas
 pub mod FieldLemmas
 pub mod HeadLemmas
 pub mod MomentLemmas
-pub mod PlaceLemmas
 pub mod Rows

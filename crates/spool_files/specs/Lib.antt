@@ -5,7 +5,6 @@ pub mod Counting
 pub mod Devices
 pub mod Entries
 pub mod Logged
-pub mod Places
 pub mod Reading
 pub mod Segments
 pub mod Settled

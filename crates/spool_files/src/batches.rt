@@ -34,7 +34,7 @@ pub(crate) fn framed(alloc: Global, body: &[u8]) -> Result<Vec<u8>, AllocError>
     ensures framed { IfOk result (λ v. v.items ≡ frame_octets (sealed body.now) ++ 0 ∷ []) }
     ensures fits { IfOk result (λ _. crc32 body.now < 2 ^ 32) }
 {
-    let mut octets = Vec::new(alloc);
+    let mut octets = Vec::with_capacity(alloc, body.len() + 9)?;
     octets.extend_from_slice(&(body.len() as u32).to_be_bytes())?;
     octets.extend_from_slice(&crc32_of(body).to_be_bytes())?;
     octets.extend_from_slice(body)?;

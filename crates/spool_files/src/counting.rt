@@ -1,14 +1,27 @@
 //! What counts of a spool's entries: which requests are open, and which answers are remembered.
 
-ghost use Rattle.std.specs.Prelude.{◌≡◌, ◌∷◌, [], ◌++◌, ◌+◌, ◌*◌, nat_lt, ℕ, List, length, true, false, OnOk};
+ghost use Rattle.std.specs.Prelude.{◌≡◌, ◌∷◌, [], ◌++◌, ◌+◌, ◌*◌, nat_lt, ℕ, List, true, false, OnOk, IfOk};
 ghost use Rattle.spool_files.specs.Entries.{Entry};
-ghost use Rattle.spool_files.specs.Places.{StandsFor};
-ghost use Rattle.spool_files.specs.Counting.{Counts, AreByArrival, RemovalKeeps, open_before, answers_before};
-ghost use Rattle.spool_files.specs.Counting.{OpensInParts, WritingOnceMoreKeeps};
+ghost use Rattle.spool_files.specs.Counting.{key_of, is_last, Knows, Counts, AreByArrival, RemovalKeeps, open_before, answers_before};
+ghost use Rattle.spool_files.specs.Counting.{InParts, Closes, is_request, is_answer_within, WritingOnceMoreKeeps, OldestIsPast, PastCanGo};
 
 use crate::entry::{Answered, Came, Head};
-use crate::places::Places;
+use rad_tables::{Duplicates, Key};
 use std::alloc::{AllocError, Global};
+
+impl Head {
+    /// Returns the key of the request that the entry is about, if it is about one.
+    pub fn key(&self) -> Option<Key>
+        ensures { result ≡ key_of self.now }
+    {
+        match self {
+            Head::Begun(_) => None,
+            Head::Came(came) => Some(came.key),
+            Head::Answered(answered) => Some(answered.key),
+            Head::GivenUp(given_up) => Some(given_up.key),
+        }
+    }
+}
 
 /// A request that is open.
 #[derive(Drop)]
@@ -28,65 +41,82 @@ pub struct RememberedAnswer {
     pub octets: Vec<u8>,
 }
 
-/// The requests that are open among the entries of segments, and the answers that are remembered.
+/// The requests that are open among the entries of a spool, and the answers that are remembered.
 ///
-/// Whoever reads a spool enters all entries in a table of [`Places`], the oldest segment first. Then it reads the segments
-/// once more, one at a time, and has their entries counted.
+/// The last entry about a request counts. So whoever reads a spool goes from its last entry to the first, the newest segment
+/// first, and has each counted.
 #[derive(Drop)]
 pub struct Counted {
-    /// The requests that are open.
+    /// The requests that are open, the last first.
     pub requests: Vec<OpenRequest>,
-    /// The answers that are remembered.
+    /// The answers that are remembered, the last first.
     pub answers: Vec<RememberedAnswer>,
-    /// The place of the next entry.
-    place: u64,
+    /// The keys of the requests that an entry so far is about.
+    known: Duplicates,
+}
+
+/// Notes which request an entry is about. Returns whether it is about one, and no entry that was noted before is.
+fn note(known: &mut Duplicates, head: &Head) -> Result<bool, AllocError>
+    ensures last { IfOk result (λ is. (entries : List Entry) → Knows known.old entries → is ≡ is_last head.now entries) }
+    ensures known { OnOk result ((entries : List Entry) (text : List ℕ) → Knows known.old entries → Knows known.new ((head.now, text) ∷ entries)) }
+{
+    match head.key() {
+        Some(key) => Ok(known.replace(key, 0)?.is_none()),
+        None => Ok(false),
+    }
 }
 
 impl Counted {
-    /// Counts nothing yet. `place` is the place of the first entry that will be counted, as [`Places`] has it: how many were
-    /// entered before it.
-    pub fn new(alloc: Global, place: u64) -> Counted
-        ensures { (now span : ℕ) (gone later : List Entry) → place ≡ length gone → Counts now span result gone [] later }
+    /// Counts nothing yet.
+    pub fn new(alloc: Global) -> Counted
+        ensures { (now span : ℕ) → Counts now span result [] [] }
     {
         Counted {
             requests: Vec::new(alloc),
             answers: Vec::new(alloc),
-            place,
+            known: Duplicates::new(alloc),
         }
     }
 
-    /// Counts the next entry, if it is a request that is open, or an answer to which no more than `span` passed up to `now`.
+    /// Lets go of what was counted so far, which closes what stands before it all the same: what is counted from now on stands
+    /// in older segments.
+    pub fn let_go(&mut self)
+        ensures { (now span : ℕ) (done later : List Entry) → Counts now span self.old done later → Counts now span self.new [] (done ++ later) }
+    {
+        self.requests.clear();
+        self.answers.clear();
+    }
+
+    /// Counts the next entry towards the first, if it is a request that is open, or an answer to which no more than `span`
+    /// passed up to `now`.
     ///
     /// # Errors
     ///
-    /// If memory is refused, or there are 2^64 - 1 entries. What was counted is of no use then.
+    /// If memory is refused. What was counted is of no use then.
     pub fn count(
         &mut self,
         alloc: Global,
-        places: &Places,
         now: u64,
         span: u64,
         head: &Head,
         text: &[u8],
     ) -> Result<(), AllocError>
-        ensures { OnOk result ((gone done later : List Entry) → StandsFor places.now (gone ++ (done ++ (head.now, text.now) ∷ later))
-            → Counts now span self.old gone done ((head.now, text.now) ∷ later)
-            → Counts now span self.new gone (done ++ (head.now, text.now) ∷ []) later) }
+        ensures { OnOk result ((done later : List Entry) → Counts now span self.old done later
+            → Counts now span self.new ((head.now, text.now) ∷ done) later) }
     {
-        let place = self.place;
-        self.place = place.checked_add(1).ok_or(AllocError)?;
+        if !note(&mut self.known, head)? {
+            return Ok(());
+        }
         match head {
             Head::Came(came) => {
-                if places.is_open(place, head) {
-                    let octets = text.to_vec(alloc)?;
-                    self.requests.push(OpenRequest {
-                        came: *came,
-                        octets,
-                    })?;
-                }
+                let octets = text.to_vec(alloc)?;
+                self.requests.push(OpenRequest {
+                    came: *came,
+                    octets,
+                })?;
             }
             Head::Answered(answered) => {
-                if places.is_remembered(place, head, now, span) {
+                if now.saturating_sub(answered.moment) <= span {
                     let octets = text.to_vec(alloc)?;
                     self.answers.push(RememberedAnswer {
                         answered: *answered,
@@ -103,9 +133,9 @@ impl Counted {
     /// Returns whether nothing counts of the entries. Then, and only then, the oldest segment may be removed, if they are its
     /// entries: what is open and what is remembered stay the same.
     pub fn is_empty(&self) -> bool
-        ensures keeps { result ≡ true → (now span : ℕ) (gone oldest newer : List Entry) → Counts now span self.now gone oldest newer
+        ensures keeps { result ≡ true → (now span : ℕ) (oldest newer : List Entry) → Counts now span self.now oldest newer
             → RemovalKeeps now span oldest newer }
-        ensures counts { result ≡ false → (now span : ℕ) (gone oldest newer : List Entry) → Counts now span self.now gone oldest newer
+        ensures counts { result ≡ false → (now span : ℕ) (oldest newer : List Entry) → Counts now span self.now oldest newer
             → open_before oldest newer ≡ [] → answers_before now span oldest newer ≡ [] → ⊥ }
     {
         self.requests.is_empty() && self.answers.is_empty()
@@ -129,13 +159,27 @@ pub fn is_to_write_again(most: u64, total: u64, counting: u64, within: u64) -> b
     u128::from(total) > 4 * counting + u128::from(within) + 3 * u128::from(most)
 }
 
-/// What is open in segments is what is open in the older ones, for all that stands in the newer, and in the newer ones.
-pub fn what_is_open_in_parts()
-    ensures { OpensInParts }
+/// What counts in segments is what counts in the older ones, for all that stands in the newer, and in the newer ones.
+pub fn what_counts_in_parts()
+    ensures requests { InParts is_request }
+    ensures answers { (now span : ℕ) → InParts (is_answer_within now span) }
+{}
+
+/// An entry closes what stands before it about the same request, and nothing else.
+pub fn an_entry_closes_its_request()
+    ensures requests { Closes is_request }
+    ensures answers { (now span : ℕ) → Closes (is_answer_within now span) }
 {}
 
 /// What is open in the oldest segment can be written once more into the newest, and counts once. Then nothing in the oldest
 /// is open. A crash before its removal leaves the same.
 pub fn what_is_written_once_more()
     ensures { (now span : ℕ) (oldest newer : List Entry) → WritingOnceMoreKeeps now span oldest newer }
+{}
+
+/// As long as [`is_to_write_again`] says so, the oldest segment can go, since no answer in it is remembered. So segments that
+/// go on in this way have at most four times the octets of what is open, what was written within the span, and three segments.
+pub fn the_oldest_can_go()
+    ensures past { OldestIsPast }
+    ensures goes { PastCanGo }
 {}

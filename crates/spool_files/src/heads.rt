@@ -1,6 +1,6 @@
 //! The heads of entries, read and written.
 
-ghost use Rattle.std.specs.Prelude.{◌≡◌, ◌++◌, OnOk};
+ghost use Rattle.std.specs.Prelude.{◌≡◌, ◌∷◌, ◌++◌, OnOk};
 ghost use Rattle.std.specs.Option.{option_map};
 ghost use Rattle.std.specs.Int.{w64, to_be_bytes};
 ghost use Rattle.spool_files.specs.Entries.{key_octets, address_octets, begun_octets, came_octets, answered_octets};
@@ -105,21 +105,47 @@ pub(crate) fn head_of(octets: &[u8]) -> Option<(Head, &[u8])>
     }
 }
 
-fn put_key(octets: &mut Vec<u8>, key: &Key) -> Result<(), AllocError>
-    ensures { OnOk result (octets.new.items ≡ octets.old.items ++ key_octets key.now) }
+/// Returns the octets of an entry's kind and of the key that it is about.
+fn kind_and_key(kind: u8, key: &Key) -> [u8; 24]
+    ensures { result ≡ kind ∷ key_octets key.now }
 {
-    octets.extend_from_slice(&key.authenticator)?;
-    octets.extend_from_slice(&key.client)?;
-    octets.extend_from_slice(&key.port.to_be_bytes())?;
-    octets.push(key.identifier)?;
-    Ok(())
+    let a = &key.authenticator;
+    let c = &key.client;
+    let p = key.port.to_be_bytes();
+    [
+        kind,
+        a[0],
+        a[1],
+        a[2],
+        a[3],
+        a[4],
+        a[5],
+        a[6],
+        a[7],
+        a[8],
+        a[9],
+        a[10],
+        a[11],
+        a[12],
+        a[13],
+        a[14],
+        a[15],
+        c[0],
+        c[1],
+        c[2],
+        c[3],
+        p[0],
+        p[1],
+        key.identifier,
+    ]
 }
 
 fn put_address(octets: &mut Vec<u8>, address: &LocalAddress) -> Result<(), AllocError>
     ensures { OnOk result (octets.new.items ≡ octets.old.items ++ address_octets address.now) }
 {
-    octets.extend_from_slice(&address.address)?;
-    octets.extend_from_slice(&address.port.to_be_bytes())
+    let a = &address.address;
+    let p = address.port.to_be_bytes();
+    octets.extend_from_slice(&[a[0], a[1], a[2], a[3], p[0], p[1]])
 }
 
 fn put_u64(octets: &mut Vec<u8>, number: u64) -> Result<(), AllocError>
@@ -146,10 +172,14 @@ fn put_origin(
 ) -> Result<(), AllocError>
     ensures { OnOk result (octets.new.items ≡ octets.old.items ++ origin_octets run lane number moment) }
 {
-    put_u64(octets, run)?;
-    octets.extend_from_slice(&lane.to_be_bytes())?;
-    put_u64(octets, number)?;
-    put_u64(octets, moment)
+    let r = run.to_be_bytes();
+    let l = lane.to_be_bytes();
+    let n = number.to_be_bytes();
+    let m = moment.to_be_bytes();
+    octets.extend_from_slice(&[
+        r[0], r[1], r[2], r[3], r[4], r[5], r[6], r[7], l[0], l[1], n[0], n[1], n[2], n[3], n[4],
+        n[5], n[6], n[7], m[0], m[1], m[2], m[3], m[4], m[5], m[6], m[7],
+    ])
 }
 
 /// Puts the numbers of a request, behind its key and address.
@@ -161,17 +191,17 @@ fn put_numbers(octets: &mut Vec<u8>, came: &Came) -> Result<(), AllocError>
 }
 
 fn put_came(octets: &mut Vec<u8>, came: &Came) -> Result<(), AllocError>
-    ensures { OnOk result (octets.new.items ≡ octets.old.items ++ came_octets came.now) }
+    ensures { OnOk result (octets.new.items ≡ octets.old.items ++ 2 ∷ came_octets came.now) }
 {
-    put_key(octets, &came.key)?;
+    octets.extend_from_slice(&kind_and_key(2, &came.key))?;
     put_address(octets, &came.ours)?;
     put_numbers(octets, came)
 }
 
 fn put_answered(octets: &mut Vec<u8>, answered: &Answered) -> Result<(), AllocError>
-    ensures { OnOk result (octets.new.items ≡ octets.old.items ++ answered_octets answered.now) }
+    ensures { OnOk result (octets.new.items ≡ octets.old.items ++ 3 ∷ answered_octets answered.now) }
 {
-    put_key(octets, &answered.key)?;
+    octets.extend_from_slice(&kind_and_key(3, &answered.key))?;
     put_origin(
         octets,
         answered.run,
@@ -182,9 +212,9 @@ fn put_answered(octets: &mut Vec<u8>, answered: &Answered) -> Result<(), AllocEr
 }
 
 fn put_given_up(octets: &mut Vec<u8>, given_up: &GivenUp) -> Result<(), AllocError>
-    ensures { OnOk result (octets.new.items ≡ octets.old.items ++ given_up_octets given_up.now) }
+    ensures { OnOk result (octets.new.items ≡ octets.old.items ++ 4 ∷ given_up_octets given_up.now) }
 {
-    put_key(octets, &given_up.key)?;
+    octets.extend_from_slice(&kind_and_key(4, &given_up.key))?;
     put_u64(octets, given_up.moment)
 }
 
@@ -197,17 +227,8 @@ pub(crate) fn put_head(octets: &mut Vec<u8>, head: &Head) -> Result<(), AllocErr
             octets.push(1)?;
             put_begun(octets, begun)
         }
-        Head::Came(came) => {
-            octets.push(2)?;
-            put_came(octets, came)
-        }
-        Head::Answered(answered) => {
-            octets.push(3)?;
-            put_answered(octets, answered)
-        }
-        Head::GivenUp(given_up) => {
-            octets.push(4)?;
-            put_given_up(octets, given_up)
-        }
+        Head::Came(came) => put_came(octets, came),
+        Head::Answered(answered) => put_answered(octets, answered),
+        Head::GivenUp(given_up) => put_given_up(octets, given_up),
     }
 }

@@ -1,11 +1,11 @@
 //! The files of a spool: which requests came in, which were answered, and what a crash leaves of them.
 //!
 //! A segment is a file of batches. [`Segment::append`] adds one to a [`Device`], which a crash leaves whole or not at all, and
-//! [`recover`] reads them again. A batch is entries: [`put_entry`] writes one, [`read_entries`] reads them. [`Places`] tells
-//! which entries of all segments count. [`LoggedFile`] is a file as a device, and [`make_segment`] makes one in a folder.
+//! [`recover`] reads them again. A batch is entries: [`put_entry`] writes one, [`read_entries`] reads them. [`Counted`] has
+//! those of all segments that count. [`LoggedFile`] is a file as a device, and [`make_segment`] makes one in a folder.
 //!
 //! The definitions that the contracts cite are in `specs/`: `Entries.antt` and `Batches.antt` have the octets, `Devices.antt`
-//! and `Calls.antt` what a crash may leave, `Segments.antt` a segment that a run writes, `Places.antt` what entries stand for.
+//! and `Calls.antt` what a crash may leave, `Segments.antt` a segment that a run writes, `Counting.antt` which entries count.
 #![tactic(auto)]
 
 mod batches;
@@ -20,16 +20,16 @@ mod folder;
 mod heads;
 mod laws;
 mod logged_file;
-mod places;
 mod reading;
 mod segment;
+mod sum_tables;
 
 pub use batches::{FoundBatches, is_sound, read_batches};
 pub use call_log::CallLog;
 pub use check_sum::crc32_of;
 pub use counting::{
-    Counted, OpenRequest, RememberedAnswer, is_to_write_again, sort_by_arrival,
-    what_is_open_in_parts, what_is_written_once_more,
+    Counted, OpenRequest, RememberedAnswer, an_entry_closes_its_request, is_to_write_again,
+    sort_by_arrival, the_oldest_can_go, what_counts_in_parts, what_is_written_once_more,
 };
 pub use device::{Device, DeviceFault, Step};
 pub use entries::{ReadError, put_entry, read_entries};
@@ -39,12 +39,8 @@ pub use folder::{
 };
 pub use laws::what_is_read_is_one;
 pub use logged_file::{FileCalls, LoggedFile};
-pub use places::{Places, an_entry_closes_its_request, removal_changes_no_other};
 pub use reading::{
-    BatchError, Fault, FaultKind, SegmentEntered, SegmentRead, SpoolRead, VERSION, count_segment,
-    enter_segment, fault_of_beginning, read_batch, read_segment, read_spool,
+    BatchError, Fault, FaultKind, SegmentRead, SpoolRead, VERSION, count_segment,
+    fault_of_beginning, read_batch, read_segment, read_spool,
 };
 pub use segment::{AppendError, MOST_OCTETS, Segment, begin, recover};
-
-#[cfg(test)]
-mod tests;

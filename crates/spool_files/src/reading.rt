@@ -11,7 +11,6 @@ use crate::counting::{Counted, sort_by_arrival};
 use crate::entries::{ReadError, read_entries};
 use crate::entry::Head;
 use crate::folder::{find_segment, segment_numbers};
-use crate::places::Places;
 use crate::segment::{AppendError, recover};
 use std::alloc::{AllocError, AllocGlobal, Global};
 use std::fs::Files;
@@ -181,7 +180,8 @@ pub fn read_segment(
 /// What was read of a spool.
 #[derive(Drop)]
 pub struct SpoolRead {
-    /// The requests that are open, in the order in which they came, and the answers that are remembered.
+    /// The requests that are open, in the order in which they came, and the answers that are remembered, in that in which they
+    /// were given.
     pub counted: Counted,
     /// What is wrong with its segments, the oldest first.
     pub faults: Vec<Fault>,
@@ -202,66 +202,33 @@ impl AppendError {
     }
 }
 
-/// What became known of a segment when its entries were entered.
-#[derive(Drop)]
-pub struct SegmentEntered {
-    /// What is wrong with it.
-    pub faults: Vec<Fault>,
-    /// How many octets its file has.
-    pub octets: usize,
-}
-
-/// Has the system keep what a segment has, and enters its entries in the table of places.
+/// Has the system keep what a segment has, and counts its entries from the last to the first. Returns what is wrong with it.
 ///
 /// # Errors
 ///
-/// If the system or memory refuses it. The table is of no use then.
-pub fn enter_segment<R: Files>(
+/// If the system or memory refuses it. What was counted is of no use then.
+pub fn count_segment<R: Files + AllocGlobal>(
     rt: &R,
-    alloc: Global,
     folder: &str,
     number: u64,
-    places: &mut Places,
-) -> io::Result<SegmentEntered> {
+    now: u64,
+    span: u64,
+    counted: &mut Counted,
+) -> io::Result<Vec<Fault>> {
+    let alloc = rt.alloc();
     let (mut device, octets) = find_segment(rt, alloc, folder, number)?;
     if let Err(error) = recover(alloc, &mut device, &octets) {
         return Err(error.as_io());
     }
     let read = read_segment(alloc, number, &octets)?;
-    for entry in &read.entries {
-        places.enter(&entry.0)?;
-    }
-    Ok(SegmentEntered {
-        faults: read.faults,
-        octets: octets.len(),
-    })
-}
-
-/// Counts the entries of a segment that were entered.
-///
-/// # Errors
-///
-/// If the system or memory refuses it. What was counted is of no use then.
-pub fn count_segment<R: Files>(
-    rt: &R,
-    alloc: Global,
-    folder: &str,
-    number: u64,
-    places: &Places,
-    now: u64,
-    span: u64,
-    counted: &mut Counted,
-) -> io::Result<()> {
-    let (_, octets) = find_segment(rt, alloc, folder, number)?;
-    let read = read_segment(alloc, number, &octets)?;
-    for entry in &read.entries {
+    for entry in read.entries.iter().rev() {
         let (head, text) = *entry;
-        counted.count(alloc, places, now, span, &head, text)?;
+        counted.count(alloc, now, span, &head, text)?;
     }
-    Ok(())
+    Ok(read.faults)
 }
 
-/// Reads the segments of a folder, the oldest first and one at a time, and has the system keep what was read: the requests
+/// Reads the segments of a folder, the newest first and one at a time, and has the system keep what was read: the requests
 /// that are open, and the answers to which no more than `span` milliseconds passed up to `now`.
 ///
 /// # Errors
@@ -277,21 +244,37 @@ pub fn read_spool<R>(
 where
     R: Files + AllocGlobal + Copy,
 {
-    let segments = segment_numbers(rt, alloc, folder)?;
-    let mut places = Places::new(alloc);
-    let mut faults = Vec::new(alloc);
-    for number in &segments {
-        let entered = enter_segment(rt, alloc, folder, *number, &mut places)?;
-        faults.extend_from_slice(&entered.faults)?;
+    let mut read = SpoolRead {
+        counted: Counted::new(alloc),
+        faults: Vec::new(alloc),
+        segments: segment_numbers(rt, alloc, folder)?,
+    };
+    read_segments(rt, folder, now, span, &mut read)?;
+    Ok(read)
+}
+
+/// Reads the segments of a spool.
+fn read_segments<R: Files + AllocGlobal>(
+    rt: &R,
+    folder: &str,
+    now: u64,
+    span: u64,
+    read: &mut SpoolRead,
+) -> io::Result<()> {
+    for number in read.segments.iter().rev() {
+        let wrong = count_segment(rt, folder, *number, now, span, &mut read.counted)?;
+        add_reversed(&mut read.faults, &wrong)?;
     }
-    let mut counted = Counted::new(alloc, 0);
-    for number in &segments {
-        count_segment(rt, alloc, folder, *number, &places, now, span, &mut counted)?;
+    read.faults.reverse();
+    read.counted.answers.reverse();
+    sort_by_arrival(read.counted.requests.as_mut_slice());
+    Ok(())
+}
+
+/// Adds faults behind others, the last first.
+fn add_reversed(faults: &mut Vec<Fault>, wrong: &[Fault]) -> Result<(), AllocError> {
+    for fault in wrong.iter().rev() {
+        faults.push(*fault)?;
     }
-    sort_by_arrival(counted.requests.as_mut_slice());
-    Ok(SpoolRead {
-        counted,
-        faults,
-        segments,
-    })
+    Ok(())
 }

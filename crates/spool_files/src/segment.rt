@@ -3,7 +3,7 @@
 //! A batch is there whole or not at all. It is written behind a closed gate and synced; only then the gate, one octet, is
 //! opened, and synced. So no checksum is trusted.
 
-ghost use Rattle.std.specs.Prelude.{◌≡◌, ◌<◌, ◌≤◌, ◌+◌, ◌^◌, ◌∷◌, [], ◌++◌, List, length};
+ghost use Rattle.std.specs.Prelude.{◌≡◌, ◌<◌, ◌+◌, ◌^◌, ◌∷◌, [], ◌++◌, List, length};
 ghost use Rattle.std.specs.Prelude.{IfOk, OnOk, OnErr, IsErrOf};
 ghost use Rattle.spool_files.specs.Devices.{Only, LeavesOnly};
 ghost use Rattle.spool_files.specs.Batches.{Batch, sealed, at_rest, batch_views, octets_of_batches, Has, IsBeforeOrAfter};

@@ -11,6 +11,7 @@ from datetime import UTC, datetime
 from tests.lib import (ACCT_SESSION_ID, HERE, HOME_SECRET, NAS_SECRET, START, Proxy, answer, attribute, audit_model, bound, built,
                        configuration, environment, free_port, hope, request, until)
 from tests.lib.ledgers import sum_after
+from tests.lib.waiting import stalled
 
 PATIENCE = 60
 TOLD = re.compile("level=info event=ledger-file run=([0-9a-f]{16}) file=([0-9]+) entries=([0-9]+) sum=([0-9a-f]{64})")
@@ -19,8 +20,9 @@ TOLD = re.compile("level=info event=ledger-file run=([0-9a-f]{16}) file=([0-9]+)
 OUTSTANDING, AGAIN, LATE = 32, 1.0, 2.0
 # A write is due within 100 ms, and a sync within a second. This much more is left to the machine.
 WRITTEN, SYNCED, SLACK = 0.1, 1.0, 0.4
-# The middle answer beside a ledger that fails is at most this many times that of a program without one, and this much later.
-TIMES, LATER = 1.5, 0.05
+# The middle answer beside a ledger that fails is at most this many times that of a program without one, and this much later. Where for so
+# many of the seconds in which it was asked the program waited for a processor, all of this may take three times as long, and the middle ten.
+TIMES, LATER, BUSY = 1.5, 0.05, 0.5
 # For how many seconds it tries to write what is not written at its end.
 LAST = 10.0
 
@@ -34,6 +36,8 @@ class Trial(Proxy):
         self.home, self.nas = bound(), bound()
         super().__init__(program, room, configuration(port, client=HERE, home_port=self.home.getsockname()[1], linger=1000), (HERE, port))
         self.made, self.delays, self.resident = 0, [], 0
+        # For how many seconds it was asked, and waited for a processor meanwhile.
+        self.passed, self.waited = 0.0, 0.0
         # What the client was told, by the moment when it came, and what the home server said.
         self.told, self.said = {}, set()
 
@@ -47,7 +51,8 @@ class Trial(Proxy):
         were in this time."""
         self.home.setblocking(False)
         self.nas.setblocking(False)
-        waiting, left, last = {}, count, time.monotonic() + seconds
+        began, before = time.monotonic(), stalled(self.ran.pid)
+        waiting, left, last = {}, count, began + seconds
         while (waiting or left) and time.monotonic() < last and self.ran.poll() is None:
             while left and len(waiting) < OUTSTANDING:
                 identifier, self.made, left = self.made % 256, self.made + 1, left - 1
@@ -58,6 +63,8 @@ class Trial(Proxy):
             if not self.serve(more) + self.hear(waiting):
                 self.repeat(waiting)
                 time.sleep(0.0005)
+        if self.ran.poll() is None:
+            self.passed, self.waited = self.passed + time.monotonic() - began, self.waited + stalled(self.ran.pid) - before
         return count - left - len(waiting)
 
     def serve(self, more):
@@ -92,13 +99,14 @@ class Trial(Proxy):
                 self.nas.sendto(asked[0], self.listen)
 
     def ends(self, status=0, seconds=1.0):
-        """Closes its input, and sees that it ends in so many seconds from its `end:` line on."""
+        """Closes its input, and sees that it ends in so many seconds from its `end:` line on, or not much later: one that tries what it need
+        not takes LAST."""
         self.ran.stdin.close()
         until("its last line", lambda: "end: " in self.printed.read_text())
         began = time.monotonic()
         hope("status", self.ran.wait(PATIENCE), status)
         ended = time.monotonic() - began
-        if ended > seconds + LATE:
+        if ended > seconds + LAST / 2:
             raise AssertionError(f"it ended {ended:.1f} s after its last line")
 
     def files(self, folder=None):
@@ -163,10 +171,11 @@ class Trial(Proxy):
 
     def answers_as_without(self, more=b""):
         """No answer was late, and the middle one took no longer than that of a program without a ledger does now."""
-        if max(self.delays) > LATE:
+        late, later = (3 * LATE, 10 * LATER) if self.waited > BUSY * self.passed else (LATE, LATER)
+        if max(self.delays) > late:
             raise AssertionError(f"an answer took {max(self.delays):.1f} s")
         middle, without = statistics.median(self.delays), statistics.median(self.without(len(self.delays), more).delays)
-        if middle > TIMES * without + LATER:
+        if middle > TIMES * without + later:
             raise AssertionError(f"the middle answer took {1000 * middle:.2f} ms, and {1000 * without:.2f} ms without a ledger")
 
     def without(self, count, more=b""):

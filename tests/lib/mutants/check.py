@@ -1,5 +1,6 @@
 """Tries the machine that plants changes: over a small file of Rattle, a small program with numbers, and a small tool with its script."""
 import pathlib
+import shutil
 import subprocess
 import tempfile
 from types import SimpleNamespace
@@ -116,6 +117,34 @@ TEST = '''from tools.less import is_less
 assert is_less(1, 2) and not is_less(2, 2) and not is_less(3, 2)
 '''
 
+NAMED = '''import os, sys
+from tests.lib import try_in_folders
+from tools.less import is_less, larger
+
+
+def ran(name):
+    with open("ran", "a") as file:
+        file.write(name + "\\n")
+
+
+def one(program, folder):
+    ran("one")
+    assert is_less(1, 2)
+
+
+def other(program, folder):
+    ran("other")
+    assert is_less(1, 2) and larger(1) == 2 and not os.path.exists("fails")
+
+
+def third(program, folder):
+    ran("third")
+
+
+if __name__ == "__main__":
+    try_in_folders([one, other, third], "")
+'''
+
 
 def test_a_file_of_rattle_has_each_change_behind_its_number():
     with tempfile.TemporaryDirectory() as folder:
@@ -152,13 +181,41 @@ def test_a_script_sees_a_change_of_a_tool_and_not_what_is_the_same():
         for file, text in (("tools/less.py", TOOL), ("tests/less_is_less.py", TEST)):
             (room.folder / file).parent.mkdir()
             room.put(file, text)
-        plants = SimpleNamespace(scripts_of=lambda _: [script], reached={script.place: {"seconds": 1}}, texts={"tools/less.py": TOOL})
+        plants = SimpleNamespace(runs_of=lambda _: [mutants.Run(script, (), 1)], texts={"tools/less.py": TOOL})
         changes = {change.what: change for change in scripts.script_changes("tools/less.py", TOOL)}
         seen = {what: mutants.seen_by(room, change, plants, 10)[0] for what, change in changes.items()}
         hope("what was seen", {what for what, by in seen.items() if by}, 
              {"a condition negated", "an early return", "and is or", "True is False", "False is True", "!= is =="})
         hope("what was not", {what for what, by in seen.items() if not by}, {"< is <=", "+ is -", "1 is one more"})
         hope("the tool afterwards", (room.folder / "tools/less.py").read_text(), TOOL)
+
+
+def test_those_tests_of_a_script_run_that_reach_a_change():
+    """What fails without a change sees none."""
+    script = Script("named", "tools/less.py")
+    with tempfile.TemporaryDirectory() as folder:
+        room = mutants.Room(0)
+        room.folder = pathlib.Path(folder)
+        room.state, room.notes = State(room.folder / "state"), room.folder / "notes"
+        room.notes.mkdir()
+        for its in ("tests/lib", "bench", "tools"):
+            shutil.copytree(TOP / its, room.folder / its)
+        room.put("tests/named.py", NAMED)
+        room.put("tools/less.py", scripts.noting("tools/less.py", TOOL, room.notes))
+        told = mutants.looked_at(room, script)
+        hope("it passes", (told["passed"], (room.folder / "said").read_text()), (True, "3 passed, 0 failed\n"))
+        hope("what each test reaches", [(it["test"], it["notes"]) for it in told["tests"]],
+             [("one", ["tools/less.py:4"]), ("other", ["tools/less.py:11", "tools/less.py:4"]), ("third", [])])
+        plants = mutants.Plants([], {script: told}, {"tools/less.py": TOOL})
+        found = {}
+        for change in plants.changes:
+            if change.what in ("< is <=", "+ is -"):
+                room.put("ran", "")
+                found[change.what] = mutants.seen_by(room, change, plants, 10)[0], sorted((room.folder / "ran").read_text().split())
+        # Each test that is named runs, and the one that failed without the change, and with it again.
+        hope("what runs", found, {"< is <=": (None, ["one", "other"]), "+ is -": ("named", ["other"] * 3)})
+        room.put("fails", "")
+        hope("what fails without it", [mutants.seen_by(room, change, plants, 10)[0] for change in plants.changes if change.what == "+ is -"], [None])
 
 
 def test_a_noting_tool_notes_the_functions_that_are_called():

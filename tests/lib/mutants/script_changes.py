@@ -19,9 +19,9 @@ SHELL = [(r"(?<= )-lt(?= )", "-le"), (r"(?<= )-gt(?= )", "-ge"), (r"(?<= )-eq(?=
 
 NOTE = """
 def _note(line, noted=set(), os=__import__("os")):
-    place = f"PLACE:{line}"
+    place, key = f"PLACE:{line}", (line, os.environ.get("TEST_OF_CHANGES"))
     try:
-        line in noted or noted.add(line) or os.path.exists(place) or os.close(os.open(place, os.O_CREAT, 0o666))
+        key in noted or noted.add(key) or os.path.exists(place) or os.close(os.open(place, os.O_CREAT, 0o666))
     except OSError:
         pass
 """

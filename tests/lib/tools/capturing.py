@@ -65,7 +65,8 @@ def pcapng(frames, links=(ETHERNET,), order="<", resolution=6, lost=0):
     """A file of (time, frame) or (time, frame, interface), of interfaces of these link types."""
     made = block(order, 0x0A0D0D0A, struct.pack(order + "IHHq", 0x1A2B3C4D, 1, 0, -1))
     for link in links:
-        made += block(order, 1, struct.pack(order + "HHI", link, 0, 0) + option(order, 9, bytes([resolution])) + option(order, 0, b""))
+        options = option(order, 2, b"any") + option(order, 9, bytes([resolution])) + option(order, 0, b"")
+        made += block(order, 1, struct.pack(order + "HHI", link, 0, 0) + options)
     for time, frame, interface in ((*it, 0)[:3] for it in frames):
         whole = round(time * 10**resolution)
         head = struct.pack(order + "IIIII", interface, whole >> 32, whole & 0xFFFFFFFF, len(frame), len(frame))

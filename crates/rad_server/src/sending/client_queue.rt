@@ -1,6 +1,6 @@
 //! The datagrams that are kept for one client, in order.
 
-ghost use Rattle.std.specs.Prelude.{◌≡◌, [], IfOk, IfNone, IfSome, length, slice_index_or};
+ghost use Rattle.std.specs.Prelude.{◌≡◌, [], MatchOption, MatchResult, bytes_eq, length, slice_get};
 ghost use Rattle.rad_server.specs.internal.Queues.{PutsBehind, TakesFirst};
 
 use super::outbox::Waiting;
@@ -20,7 +20,8 @@ pub(crate) struct ClientQueue {
 impl ClientQueue {
     /// Makes an empty queue for the client that has this address.
     pub(crate) fn new(alloc: Global, client: [u8; 4]) -> ClientQueue
-        ensures { result.datagrams.items ≡ [] }
+        ensures client { result.client ≡ client }
+        ensures none { result.datagrams.items ≡ [] }
     {
         ClientQueue {
             client,
@@ -28,7 +29,9 @@ impl ClientQueue {
         }
     }
 
-    pub(crate) fn is_of(&self, client: [u8; 4]) -> bool {
+    pub(crate) fn is_of(&self, client: [u8; 4]) -> bool
+        ensures { result ≡ bytes_eq self.now.client client }
+    {
         self.client == client
     }
 
@@ -44,7 +47,8 @@ impl ClientQueue {
     ///
     /// `AllocError` if memory is refused. The queue is unchanged then.
     pub(crate) fn put(&mut self, datagram: Waiting) -> Result<Option<Waiting>, AllocError>
-        ensures puts { IfOk result (λ lost. PutsBehind 64 self.old.datagrams.items datagram lost self.new.datagrams.items) }
+        ensures client { self.new.client ≡ self.old.client }
+        ensures puts { MatchResult result (λ lost. PutsBehind 64 self.old.datagrams.items datagram lost self.new.datagrams.items) (λ _. self.new.datagrams.items ≡ self.old.datagrams.items) }
     {
         self.datagrams.push(datagram)?;
         if self.datagrams.len() <= MOST {
@@ -54,15 +58,15 @@ impl ClientQueue {
     }
 
     pub(crate) fn first(&self) -> Option<&Waiting>
-        ensures none { IfNone result (self.now.datagrams.items ≡ []) }
-        ensures some { IfSome result (λ first. first.now ≡ slice_index_or self.now.datagrams.items 0 first.now) }
+        ensures { MatchOption result (slice_get self.now.datagrams.items 0 ≡ None) (λ first. slice_get self.now.datagrams.items 0 ≡ Some first.now) }
     {
         self.datagrams.first()
     }
 
     /// Takes the oldest datagram, if there is one.
     pub(crate) fn take(&mut self) -> Option<Waiting>
-        ensures { TakesFirst self.old.datagrams.items result self.new.datagrams.items }
+        ensures client { self.new.client ≡ self.old.client }
+        ensures takes { TakesFirst self.old.datagrams.items result self.new.datagrams.items }
     {
         if self.datagrams.is_empty() {
             return None;

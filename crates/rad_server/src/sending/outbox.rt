@@ -1,5 +1,8 @@
 //! Datagrams that a worker sends together.
 
+ghost use Rattle.std.specs.Prelude.{◌≡◌, [], ◌∷◌, ◌++◌, IfOk, IsTrue, MatchResult, map};
+ghost use Rattle.rad_server.specs.internal.Keeping.{IsWaiting, departure_of, sent_departure, waiting_in};
+
 use rad_realms::Endpoint;
 use std::alloc::{AllocError, Global};
 
@@ -33,7 +36,9 @@ impl Waiting {
     /// # Errors
     ///
     /// `AllocError` if memory is refused.
-    pub(crate) fn copy_of(alloc: Global, sent: Sent<'_>) -> Result<Waiting, AllocError> {
+    pub(crate) fn copy_of(alloc: Global, sent: Sent<'_>) -> Result<Waiting, AllocError>
+        ensures { IfOk result (λ waiting. IsWaiting sent.entry waiting) }
+    {
         let mut octets = Vec::new(alloc);
         octets.extend_from_slice(sent.octets)?;
         Ok(Waiting {
@@ -45,7 +50,9 @@ impl Waiting {
     }
 
     /// Returns the datagram.
-    pub(crate) fn sent(&self) -> Sent<'_> {
+    pub(crate) fn sent(&self) -> Sent<'_>
+        ensures { IsWaiting result self.now }
+    {
         Sent {
             moment: self.moment,
             socket: self.socket,
@@ -70,7 +77,9 @@ pub(crate) struct Outbox {
 
 impl Outbox {
     /// Makes an empty outbox. It allocates nothing before a datagram is added.
-    pub(crate) fn new(alloc: Global) -> Outbox {
+    pub(crate) fn new(alloc: Global) -> Outbox
+        ensures { waiting_in result ≡ [] }
+    {
         Outbox {
             alloc,
             datagrams: Vec::new(alloc),
@@ -79,7 +88,9 @@ impl Outbox {
     }
 
     /// Returns whether it holds no datagram.
-    pub(crate) fn is_empty(&self) -> bool {
+    pub(crate) fn is_empty(&self) -> bool
+        ensures { IsTrue result → waiting_in self.now ≡ [] }
+    {
         self.count == 0
     }
 
@@ -93,7 +104,9 @@ impl Outbox {
     /// # Errors
     ///
     /// `AllocError` if memory is refused. The datagram is not added.
-    pub(crate) fn add(&mut self, sent: Sent<'_>) -> Result<(), AllocError> {
+    pub(crate) fn add(&mut self, sent: Sent<'_>) -> Result<(), AllocError>
+        ensures { MatchResult result (λ _. waiting_in self.new ≡ waiting_in self.old ++ sent_departure sent.entry ∷ []) (λ _. waiting_in self.new ≡ waiting_in self.old) }
+    {
         if let Some(room) = self.datagrams.get_mut(self.count) {
             room.moment = sent.moment;
             room.socket = sent.socket;
@@ -108,13 +121,17 @@ impl Outbox {
     }
 
     /// Returns the datagrams that wait, in order.
-    pub(crate) fn waiting(&self) -> &[Waiting] {
+    pub(crate) fn waiting(&self) -> &[Waiting]
+        ensures { map departure_of result.now ≡ waiting_in self.now }
+    {
         let count = self.count.min(self.datagrams.len());
         &self.datagrams[..count]
     }
 
     /// Removes the datagrams that wait, and keeps their room for others.
-    pub(crate) fn clear(&mut self) {
+    pub(crate) fn clear(&mut self)
+        ensures { waiting_in self.new ≡ [] }
+    {
         self.count = 0;
     }
 }

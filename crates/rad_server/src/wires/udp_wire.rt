@@ -1,6 +1,7 @@
 //! The sockets of a worker as its wire.
 
-ghost use Rattle.std.specs.Prelude.{◌≡◌, Some};
+ghost use Rattle.std.specs.Prelude.{◌≡◌, [], None, Some, map};
+ghost use Rattle.rad_server.specs.internal.Taken.{plain, taken};
 ghost use Rattle.rad_server.specs.internal.Wires.{FitsRoom};
 
 use super::heap_room::HeapRoom;
@@ -29,7 +30,7 @@ use std::time::{Clock, Instant};
 /// all as 0: each answers what came to it.
 ///
 /// A datagram that is sent is handed to the system a little later, together with others: [`PolledSockets`] says when.
-/// If the system refuses it, that is reported to the gate.
+/// If the system refuses it, that is reported to the gate. What the log has as sent is exactly what these took on.
 #[derive(Drop)]
 pub(crate) struct UdpWire<'a, R, G: Gate, A> {
     clock: TurnClock<'a, R>,
@@ -39,6 +40,8 @@ pub(crate) struct UdpWire<'a, R, G: Gate, A> {
     answering: Option<Answering<'a, R, G, A>>,
     heap: HeapRoom,
     traffic: Traffic,
+    ghost passed: { map plain (taken traffic.passed) ≡ map plain (taken polled.sent.passed) },
+    ghost places: { answering ≡ None → taken traffic.passed ≡ taken polled.sent.passed },
 }
 
 impl<'a, R, G: Gate, A> UdpWire<'a, R, G, A> {
@@ -50,19 +53,26 @@ impl<'a, R, G: Gate, A> UdpWire<'a, R, G, A> {
         random: StdRng,
         polled: PolledSockets<'a, G>,
         answering: Option<Answering<'a, R, G, A>>,
-    ) -> UdpWire<'a, R, G, A> {
+    ) -> UdpWire<'a, R, G, A>
+        requires { polled.sent.passed ≡ [] }
+    {
+        let clock = TurnClock::new(clock, start);
+        let heap = HeapRoom::new(alloc);
+        let traffic = Traffic::new();
         UdpWire {
-            clock: TurnClock::new(clock, start),
+            clock,
             random,
             polled,
             answering,
-            heap: HeapRoom::new(alloc),
-            traffic: Traffic::new(),
+            heap,
+            traffic,
         }
     }
 
     /// Returns the index of the socket for a datagram that the worker sends to a peer from the socket of this number.
-    fn index_of(&self, socket: u16, peer: Endpoint) -> u16 {
+    fn index_of(&self, socket: u16, peer: Endpoint) -> u16
+        ensures { self.now.answering ≡ None → result ≡ socket }
+    {
         match &self.answering {
             Some(answering) if socket == 0 => answering.socket_of(peer),
             _ => socket,
@@ -74,19 +84,54 @@ impl<R: Clock, G: Gate + SocketReports, A: LocalAddresses> UdpWire<'_, R, G, A> 
     /// Begins a turn, and receives a datagram. Waits for one if there is nothing else to do.
     fn receive_next(&mut self, room: &mut [u8; 4096]) -> Received
         ensures fits { FitsRoom result }
-        ensures log { self.new.traffic.passed ≡ self.old.traffic.passed }
+        ensures log { self.new.traffic ≡ self.old.traffic }
     {
         let longest = self.clock.longest_wait();
         self.clock.begin_turn();
         if self.polled.has_kept() {
-            self.polled.set_moment(self.clock.now().get());
-            self.clock.begin_turn();
+            self.tell_moment();
         }
-        let received = self.polled.receive(longest, room);
-        match &mut self.answering {
-            Some(answering) => answering.received(received),
-            None => received,
-        }
+        let received = self.receive_one(longest, room);
+        self.answer(received)
+    }
+
+    /// Tells the sockets the moment, and begins a turn anew.
+    fn tell_moment(&mut self)
+        ensures { self.new.traffic ≡ self.old.traffic }
+    {
+        self.polled.set_moment(self.clock.now().get());
+        self.clock.begin_turn();
+    }
+
+    fn receive_one(&mut self, milliseconds: u64, room: &mut [u8; 4096]) -> Received
+        ensures fits { FitsRoom result }
+        ensures log { self.new.traffic ≡ self.old.traffic }
+    {
+        self.polled.receive(milliseconds, room)
+    }
+
+    /// Returns this receive as the worker knows it.
+    fn answer(&mut self, received: Received) -> Received
+        requires { FitsRoom received }
+        ensures fits { FitsRoom result }
+        ensures log { self.new.traffic ≡ self.old.traffic }
+    {
+        known_receive(&mut self.answering, received)
+    }
+}
+
+/// Returns a receive as if all sockets were one, if the worker knows them so.
+fn known_receive<R: Clock, G: SocketReports, A: LocalAddresses>(
+    answering: &mut Option<Answering<'_, R, G, A>>,
+    received: Received,
+) -> Received
+    requires { FitsRoom received }
+    ensures fits { FitsRoom result }
+    ensures none { answering.new ≡ None → answering.old ≡ None }
+{
+    match answering {
+        Some(answering) => answering.received(received),
+        None => received,
     }
 }
 
@@ -124,9 +169,9 @@ impl<R: Clock, G: Gate + SocketReports, A: LocalAddresses> Wire for UdpWire<'_, 
     }
 
     fn send(&mut self, socket: u16, address: [u8; 4], port: u16, octets: &[u8]) -> Delivery {
-        self.polled.set_moment(self.clock.now().get());
         let to = Endpoint { address, port };
         let from = self.index_of(socket, to);
+        self.polled.set_moment(self.clock.now().get());
         let delivery = self.polled.send(from, to, octets);
         self.traffic
             .departed(socket, address, port, octets, delivery);

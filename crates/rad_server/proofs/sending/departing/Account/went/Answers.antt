@@ -1,0 +1,11 @@
+use Rattle.std.proofs.Common.{◌∙◌, ap}
+use Rattle.rad_desk.specs.declared.wire.Delivery.TheVariants.{Sent}
+use Rattle.rad_server.specs.internal.Taken.{given, taken}
+use Rattle.rad_server.proofs.Accounts.{given_one, taken_one}
+use Rattle.rad_server.proofs.sending.departing.Account.went.Goals as goal
+
+pub returns-clause-gone : goal.returns-clause-gone
+returns-clause-gone g c = ap given c.departed.ensures ∙ given_one c.args.self.now.gone.passed c.args.sent.socket c.args.sent.to c.args.sent.octets.now Sent
+
+pub returns-clause-taken : goal.returns-clause-taken
+returns-clause-taken g c = ap taken c.departed.ensures ∙ taken_one c.args.self.now.gone.passed c.args.sent.socket c.args.sent.to c.args.sent.octets.now Sent

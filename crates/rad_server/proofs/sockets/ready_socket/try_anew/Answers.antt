@@ -1,0 +1,11 @@
+use Rattle.std.proofs.Common.{refl, ◌∙◌, arith}
+use Rattle.rad_server.proofs.SocketLists.{same_at}
+use Rattle.rad_server.proofs.sockets.ready_socket.try_anew.Goals as goal
+
+pub loop-socket-preserved : goal.loop-socket-preserved
+loop-socket-preserved g c = λ place.
+    same_at g.S.DatagramSocket.took c.loop-socket.socket-items c.loop-socket.socket-index _ c.socket-item.result (omega (arith, c.loop-socket.auto.socket-items, c.loop-socket-test.true)) refl place
+    ∙ c.loop-socket.invariant place
+
+pub returns : goal.returns
+returns g c = c.loop-socket.invariant

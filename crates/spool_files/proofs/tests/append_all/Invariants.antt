@@ -1,8 +1,0 @@
-use Rattle.std.proofs.Common.{List}
-use Rattle.spool_files.specs.Batches.{Batch}
-use Rattle.spool_files.specs.Calls.{octets_after, MayLeave}
-use Rattle.spool_files.specs.Segments.{IsSettled}
-use Rattle.spool_files.proofs.tests.append_all.Given as goal
-
-abbrev pub invariant-loop-index : goal.invariant-loop-index
-invariant-loop-index l = (batches : List Batch) × IsSettled (λ f. octets_after f.log.calls) (λ f. MayLeave f.log.calls) l.segment batches
