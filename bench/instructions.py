@@ -3,8 +3,9 @@
 usage: python3 -m bench.instructions PROGRAM [BOOK ..]
 
 PROGRAM is one that was built, proved or not. In one that is not proved each access to memory is checked, so only its changes tell anything.
-First so many requests are answered that nobody counts, 1,000 and 100,000 where no number is given: they stay in the books. Then the instructions
-of 1,000 more are counted, by how many are outstanding and by how many home servers there are.
+First so many requests are answered that nobody counts, 1,000, 100,000 and 990,000 where no number is given: they stay in the books. Then the
+instructions of 1,000 more are counted, by how many are outstanding and by how many home servers there are. All go to the first one; the wakes
+of the others' workers, which have nothing to do, are not counted.
 """
 import pathlib
 import re
@@ -19,13 +20,15 @@ from bench.proxies import CLIENT_SECRET, HOME_SECRET, RadProxy, Setting
 from tests.lib import free_ports, started
 from tests.lib.waiting import until
 
-COUNTED, OUT, HOMES, BOOKS = 1000, (1, 64, 254), (1, 64), (1000, 100_000)
+COUNTED, OUT, HOMES, BOOKS = 1000, (1, 64, 254), (1, 64), (1000, 100_000, 990_000)
 SECONDS, PATIENCE = 3600, 60
 # How many requests are outstanding while nobody counts.
 FILLS = 128
+# Nothing of a book is over before all is counted.
+KEPT = {"span": 600_000}
 TOTAL = re.compile(r"^(?:totals|summary): (\d+)", re.MULTILINE)
-# Only the front checks what comes from a client.
-OF_THE_FRONT, OF_A_LANE = "check_in", "Desk::step"
+# Only the front checks what comes from a client. A worker that has nothing to do digests nothing.
+OF_THE_FRONT, OF_A_LANE, AT_WORK = "check_in", "Desk::step", "md5::compress"
 
 
 def generate(work, port, out, count):
@@ -47,7 +50,7 @@ def counted(folder):
     totals = {each: 0 for each in (OF_THE_FRONT, OF_A_LANE)}
     for text in texts:
         for each in totals:
-            if each in text:
+            if each in text and AT_WORK in text:
                 totals[each] += int(TOTAL.findall(text)[-1])
     return totals.values()
 
@@ -57,7 +60,7 @@ def measure(program, work, book, out, homes):
     with ExitStack() as stack:
         folder = pathlib.Path(stack.enter_context(tempfile.TemporaryDirectory(dir=work)))
         ports = free_ports(homes + 1)
-        setting = Setting(ports[0], ports[1:], homes)
+        setting = Setting(ports[0], ports[1:], homes, lane=KEPT)
         for port in setting.homes:
             stack.enter_context(started([work / "home", str(port), HOME_SECRET, str(SECONDS)], stdout=subprocess.DEVNULL))
         seen = ["valgrind", "--tool=callgrind", "--separate-threads=yes", "--instr-atstart=no", f"--callgrind-out-file={folder}/calls"]

@@ -20,7 +20,7 @@ from contextlib import ExitStack, contextmanager
 
 from bench import readings
 from bench.proxies import (CLIENT_SECRET, HOME_SECRET, SECONDS_TO_ANSWER, Direct, FreeRadius, RadProxy, Radsecproxy, Relay, Setting,
-                           SingleRelay, WaitsAlone, WithLedger, status_server, wait_until_it_answers)
+                           SingleRelay, WaitsAlone, WithLedger, WithSpool, status_server, wait_until_it_answers)
 from tests.lib import started
 from tests.lib.loads import generator
 
@@ -36,7 +36,7 @@ REMEMBERED = 100_000
 LARGE = {"homes": 64, "clients": 256, "realms": 256}
 BOOK, BOOK_BEGINS, BOOK_STEP, GROWTH_WINDOW, GROWTH_ROUNDS = 1_000_000, 1000, 9990, 64, 3
 SPAN_A_SECOND_OF_RUN = 100
-ONLY_IF_NAMED = {SingleRelay.name, WithLedger.name}
+ONLY_IF_NAMED = {SingleRelay.name, WithLedger.name, WithSpool.name}
 
 
 class Bench:
@@ -46,7 +46,7 @@ class Bench:
         self.plan, self.folder, self.work = plan, folder, work
         self.series = itertools.count()
         self.results = []
-        subjects = [Direct(), Relay(work / "relay"), SingleRelay(work / "relay"), RadProxy(plan.program), WithLedger(plan.program),
+        subjects = [Direct(), Relay(work / "relay"), SingleRelay(work / "relay"), RadProxy(plan.program), WithLedger(plan.program), WithSpool(plan.program),
                     Radsecproxy(), FreeRadius(), WaitsAlone(work / "waits")]
         wanted = plan.subjects.split(",") if plan.subjects else [each.name for each in subjects if each.name not in ONLY_IF_NAMED]
         self.subjects = [subject for subject in subjects if subject.name in wanted and subject.is_there()]
@@ -207,7 +207,7 @@ class Bench:
 
     def measures(self):
         """Each measure, and of which subjects it is taken."""
-        proxies = [RadProxy.name, WithLedger.name, Radsecproxy.name, FreeRadius.name]
+        proxies = [RadProxy.name, WithLedger.name, WithSpool.name, Radsecproxy.name, FreeRadius.name]
         with_relay = [Relay.name, SingleRelay.name, *proxies]
         return {
             "throughput": (self.throughput, [Direct.name, *with_relay]),

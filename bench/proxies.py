@@ -123,6 +123,15 @@ class WithLedger(RadProxy):
         return ["env", f"RAD_PROXY_LEDGER={ledger}", *super().words(folder, setting)]
 
 
+class WithSpool(RadProxy):
+    """The same while it keeps requests on disk until they are answered. It is measured where it is named."""
+
+    name = "rad_proxy with a spool"
+
+    def words(self, folder, setting):
+        return ["env", f"RAD_PROXY_SPOOL={folder / 'spool'}", *super().words(folder, setting)]
+
+
 class Radsecproxy:
     """radsecproxy, which logs no request, and watches its home servers by Status-Server too."""
 

@@ -3,9 +3,10 @@
 usage: python3 -m bench.spool TESTS [FOLDER]
 
 TESTS is the program that `rt test` leaves in crates/library_tests/out. The folder, a temporary one where none is given, says on which file
-system. Both write batches of so many records of 200 octets, each with two syncs, in turn; the quickest of three runs counts. The spool's
-records have their heads beside their octets, and entries that close earlier ones; it removes no segment. The plain C program sums and
-copies no record: it writes the same octets each time. Then a million requests that are open are read.
+system. All write batches of so many records of 200 octets, each with two syncs, in turn; the quickest of three runs counts. The spool's
+records have their heads beside their octets, and entries that close earlier ones; it removes no segment. The plain C program writes one
+batch again and again, and makes, sums and copies none: once with as many octets as the spool's batches, by which the share is, and once
+with 200 for each record and nothing else. Then a million requests that are open are read.
 """
 import hashlib
 import os
@@ -35,23 +36,31 @@ def taken(words, **how):
     return time.monotonic() - began
 
 
+def plain(folder, batches, octets):
+    """The seconds that the plain C program takes for so many batches of so many octets."""
+    seconds = taken([folder / "plain", folder / "file", str(batches), str(octets)])
+    (folder / "file").unlink()
+    return seconds
+
+
 def writes(trials, folder, batches, size):
-    """The seconds that each of the two takes for so many batches."""
+    """The seconds for so many batches: the spool's, plain C's with as many octets, and plain C's with the records alone."""
     numbers = {"span": 1000, "most": MOST, "count": size, "text": OCTETS - 4, "batches": batches, "first": 1000, "run": 1, "keeps": 1}
     spool = taken(trials.words(WRITES), env=environment_of(folder / "spool", numbers))
-    plain = taken([folder / "plain", folder / "file", str(batches), str(size), str(OCTETS)])
-    for left in [folder / "file", *(folder / "spool").iterdir()]:
+    segments_left = list((folder / "spool").iterdir())
+    octets = sum(left.stat().st_size for left in segments_left)
+    for left in segments_left:
         left.unlink()
-    return spool, plain
+    return spool, plain(folder, batches, octets // batches - 9), plain(folder, batches, OCTETS * size)
 
 
 def measure_writes(trials, folder):
-    print("records in a batch   spool, a second   plain C, a second   share")
+    print("records in a batch   spool, a second   plain C, as many octets   share   plain C, records alone   share")
     for size in SIZES:
         runs = [writes(trials, folder, RECORDS[size] // size, size) for _ in range(ROUNDS)]
-        spool, plain = (RECORDS[size] / min(run[which] for run in runs) for which in (0, 1))
-        said = "" if spool >= LEAST_SHARE * plain else f"  less than {LEAST_SHARE}"
-        print(f"{size:>18} {spool:>17.0f} {plain:>19.0f} {spool / plain:>7.2f}{said}", flush=True)
+        spool, same, alone = (RECORDS[size] / min(run[which] for run in runs) for which in (0, 1, 2))
+        said = "" if spool >= LEAST_SHARE * same else f"  less than {LEAST_SHARE}"
+        print(f"{size:>18} {spool:>17.0f} {same:>25.0f} {spool / same:>7.2f} {alone:>24.0f} {spool / alone:>7.2f}{said}", flush=True)
 
 
 def entry_of(arrival):

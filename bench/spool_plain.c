@@ -1,7 +1,7 @@
 /*
- * Appends records to a file as a plain program would, with the same syncs as a spool: a batch, a sync, one octet, a sync.
+ * Appends batches of so many octets to a file as a plain program would, with the same syncs as a spool: a batch, a sync, one octet, a sync.
  *
- * usage: spool_plain FILE BATCHES COUNT OCTETS
+ * usage: spool_plain FILE BATCHES OCTETS
  */
 #include <fcntl.h>
 #include <stdio.h>
@@ -11,11 +11,11 @@
 
 int main(int argc, char **argv)
 {
-    if (argc != 5) {
-        fprintf(stderr, "usage: spool_plain FILE BATCHES COUNT OCTETS\n");
+    if (argc != 4) {
+        fprintf(stderr, "usage: spool_plain FILE BATCHES OCTETS\n");
         return 1;
     }
-    long batches = strtol(argv[2], NULL, 10), size = strtol(argv[3], NULL, 10) * strtol(argv[4], NULL, 10) + 10;
+    long batches = strtol(argv[2], NULL, 10), size = strtol(argv[3], NULL, 10) + 10;
     int file = open(argv[1], O_WRONLY | O_CREAT | O_EXCL, 0600);
     char *batch = malloc((size_t)size);
     if (file < 0 || !batch) {

@@ -200,7 +200,7 @@ def the_life():
 PLACES = {
     "rad_proxy": (2, 0), "library_tests": (3, 0),
     "rad_telemetry": (2, 1), "ledger_writer": (4, 1), "rad_audit": (5, 1),
-    "config_json": (0, 2), "rad_replay": (1, 2), "rad_server": (2, 2), "ledger_lines": (4, 2), "ledger_files": (5, 2),
+    "config_json": (0, 2), "rad_replay": (1, 2), "rad_server": (2, 2), "spool_writer": (3, 2), "ledger_lines": (4, 2), "ledger_files": (5, 2),
     "rad_console": (2, 3), "rad_metrics": (3, 3), "ledger_rules": (4, 3),
     "rad_advice": (0, 4), "rad_addresses": (1, 4), "ledger_state": (2, 4), "rad_simulation": (5, 4),
     "rad_desk": (3, 5), "rad_network": (4, 5),
@@ -216,7 +216,8 @@ GUTTERS = {("library_tests", "ledger_lines"): 3.5, ("library_tests", "spool_file
            ("ledger_lines", "json_objects"): 4.5,
            ("rad_audit", "rad_files"): 0.5, ("rad_audit", "rad_log"): 1.5, ("ledger_rules", "rad_lane"): 3.5,
            ("rad_proxy", "rad_advice"): 0.5, ("config_json", "rad_files"): 0.5, ("config_json", "rad_log"): 0.5,
-           ("config_json", "rad_realms"): 1.5, ("rad_replay", "rad_files"): 0.5, ("rad_metrics", "rad_log"): 0.5}
+           ("config_json", "rad_realms"): 1.5, ("rad_replay", "rad_files"): 0.5, ("rad_metrics", "rad_log"): 0.5,
+           ("rad_telemetry", "rad_metrics"): 2.5, ("ledger_writer", "rad_metrics"): 3.5, ("spool_writer", "rad_desk"): 3.5, ("spool_writer", "spool_files"): 4.5, ("spool_writer", "rad_log"): 0.5}
 PROGRAMS = "rad_proxy", "rad_audit", "config_json"
 MOST_CHARACTERS = 24
 LEGEND = ["An arrow leads to what a crate uses;", "it uses what that rests on too.", "In small type: libraries of the kit."]
@@ -249,7 +250,7 @@ def wrapped(words):
 class Plan:
     """Where the crates' boxes are, and the ways between them."""
 
-    WIDE, HIGH, COLUMN, ROW, LEFT, TOP = 166, 48, 190, 97, 14, 14
+    WIDE, HIGH, COLUMN, ROW, LEFT, TOP = 166, 48, 190, 122, 14, 14
 
     def __init__(self, pairs):
         self.pairs, self.lanes = pairs, {}

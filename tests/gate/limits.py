@@ -23,6 +23,8 @@ LIMITS, RINGS, WAKES, LEFT = "network/limits", "network/parallel_lanes", "timing
 # By source: each number, and what sees it: a test of a script, a row of tests/rows, or one of the above.
 NUMBERS = {
     "block_queue/src/block_queue.rt": {"MOST": ("0x8000_0000_0000_0000", PROVED)},
+    "rad_server/src/waking/apart.rt": {"LINE": ("8", CHOICE)},
+    "rad_server/src/wires/udp_wire.rt": {"STATUS_SERVER": ("12", FORM)},
     "spool_files/src/folder.rt": {"MODE": ("0o600", FORM), "FOLDER_MODE": ("0o700", FORM), "DIGITS": ("16", FORM)},
     "spool_files/src/reading.rt": {"VERSION": ("1", PROVED)},
     "spool_files/src/segment.rt": {"MOST_OCTETS": ("1 << 24", PROVED), "BESIDE": ("10", PROVED)},
@@ -75,7 +77,7 @@ NUMBERS = {
     "rad_log/src/writer_state.rt": {"WORK": ("1", FORM), "END": ("2", FORM)},
     "rad_metrics/src/own_process.rt": {"UNIT": ("10", FORM)},
     "rad_metrics/src/counts.rt": {"APART": ("16", CHOICE)},
-    "rad_metrics/src/histogram.rt": {"BUCKETS": ("18", PROVED)},
+    "rad_metrics/src/histogram.rt": {"FIRST": ("APART", CHOICE), "SUM": ("FIRST + BUCKETS", FORM), "BUCKETS": ("18", PROVED)},
     "rad_metrics/src/home_times.rt": {
         "IDENTIFIERS": ("256", f"{LIMITS} the_widest_window_is_out_at_once"), "BESIDE": ("256", CHOICE), "SERIALS": ("1 << 23", CHOICE),
         "UNTOLD": ("u64::MAX", FORM), "NUMBERS": ("1 << 24", PROVED), "TIMES": ("1 << 40", PROVED)},
@@ -129,6 +131,17 @@ NUMBERS = {
         "MOST_VALUE": ("253", FORM)},
     "rad_telemetry/src/tracer.rt": {"MOST_LINES": ("200", PROVED), "SECOND": ("1_000_000", PROVED)},
     "rad_telemetry/src/reporter.rt": {"PERIOD": ("1000", "timing/metrics_over_time TESTS"), "ASKED": ("40", CHOICE)},
+    "spool_writer/src/fault.rt": {"NUMBERS": ("1 << 32", PROVED)},
+    "spool_writer/src/log_lines.rt": {"MOST": ("20", "ledger/resumed what_no_longer_passes_the_checks_is_told_and_stays")},
+    "spool_writer/src/offers.rt": {"PAUSE": ("1000", CHOICE)},
+    "spool_writer/src/opening.rt": {"DEFAULT_LIMIT": ("1 << 34", CHOICE), "PLACES": ("32_768", CHOICE)},
+    "spool_writer/src/room.rt": {"LONGEST": ("1000", CHOICE), "LOOK": ("1", CHOICE)},
+    "spool_writer/src/runtime_disk.rt": {
+        "MODE": ("0o600", "ledger/resumed a_folder_of_another_process_or_for_others_is_refused"),
+        "OTHERS": ("0o077", "ledger/resumed a_folder_of_another_process_or_for_others_is_refused"),
+    },
+    "spool_writer/src/tests.rt": {"AMPLE": ("1 << 34", CHOICE)},
+    "spool_writer/src/writer.rt": {"AGAIN": ("1000", CHOICE), "BATCH": ("1 << 22", CHOICE), "GREATEST_REQUEST": ("4096", PROVED), "PAUSE": ("50", CHOICE)},
     "ledger_writer/src/filling.rt": {"SIZE": ("262_144", CHOICE), "LINES": ("1024", CHOICE)},
     "ledger_writer/src/inlet.rt": {"LOOK": ("1", CHOICE), "DUE": ("16", CHOICE), "MOST_LOST": ("256", FORM)},
     "ledger_writer/src/record_counts.rt": {

@@ -107,6 +107,8 @@ SCRIPTS = [
     Script("ledger/days_of_files", is_alone=True),
     Script("ledger/shares", is_alone=True),
     Script("ledger/disk_faults", is_alone=True),
+    Script("ledger/resumed", is_alone=True),
+    Script("faults/killed_runs", is_alone=True),
     Script("ledger/auditor_spoiled_lines", AUDITOR, is_alone=True),
     Script("tools/check"),
     Script("tools/judge"),

@@ -34,6 +34,6 @@ mod writer;
 
 pub use inlet::LedgerInlet;
 pub use ledger_files::LedgerDisk;
-pub use opening::{OpenedLedger, find_folder, open_ledger, start_writer};
+pub use opening::{OpenedLedger, draw_name, find_folder, open_ledger, start_writer};
 pub use runtime_disk::RuntimeDisk;
 pub use writer::LedgerWriter;

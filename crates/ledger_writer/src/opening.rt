@@ -69,17 +69,18 @@ where
     }
 }
 
-/// Opens a ledger of a configuration in this folder, under a name that is drawn now. No file is made yet. At the end,
+/// Opens a ledger of a configuration in this folder, for the run of this name. No file is made yet. At the end,
 /// requests that are left may wait for room for so long.
 ///
 /// # Errors
 ///
 /// `AllocError` if memory is refused.
-pub fn open_ledger<'a, R: Clock + RandomSource>(
+pub fn open_ledger<'a, R: Clock>(
     rt: &'a R,
     alloc: Global,
     folder: String,
     config: &Config,
+    run: u64,
     longest: Duration,
 ) -> Result<OpenedLedger<'a, R>, AllocError>
     ensures kept { IfOk result (λ opened. opened.inlet.accounted.handed ≡ []) }
@@ -103,14 +104,7 @@ pub fn open_ledger<'a, R: Clock + RandomSource>(
     let puts = no_puts(alloc, clients.len())?;
     let counts = RecordCounts::new(alloc, config.homes().len())?;
     let inlet = open_inlet(rt, giver, (puts, counts), &shared, longest)?;
-    let source = open_source(
-        alloc,
-        draw_name(rt),
-        folder,
-        config.homes(),
-        entries,
-        &shared,
-    )?;
+    let source = open_source(alloc, run, folder, config.homes(), entries, &shared)?;
     let batch = new_batch(alloc)?;
     let writer = LedgerWriter { source, batch };
     Ok(OpenedLedger {
@@ -223,7 +217,7 @@ fn no_puts(alloc: Global, clients: usize) -> Result<Vec<Taking>, AllocError>
 }
 
 /// Draws what names a run. If the system gives no random octets, it is the time.
-fn draw_name<R: Clock + RandomSource>(rt: &R) -> u64 {
+pub fn draw_name<R: Clock + RandomSource>(rt: &R) -> u64 {
     let mut random = [0; 8];
     match rt.fill_bytes(&mut random) {
         Ok(()) => u64::from_be_bytes(random),

@@ -2,6 +2,9 @@ pub mod Alone
 pub mod Entries
 pub mod Escapes
 pub mod Parts
+pub mod Stands
 pub mod Tabs
+pub mod Taken
+pub mod Tells
 pub mod Texts
 pub mod Values

@@ -1,5 +1,7 @@
 -- The lines of a block, and what is given back of them by parts.
-use Rattle.std.specs.Prelude.{◌≡◌, ℕ, List, [], All, flat_map, map, ⊤}
+use Rattle.std.specs.Prelude.{◌≡◌, ℕ, List, [], All, flat_map, map, min, take, vec_len, ⊤}
+use Rattle.rad_audit.specs.declared.blocks.Block.{Block}
+use Rattle.rad_audit.specs.declared.blocks.FileLine.{FileLine}
 use Rattle.rad_audit.specs.declared.blocks.Part.{Part}
 use Rattle.rad_audit.specs.declared.blocks.Part.TheVariants as part
 use Rattle.rad_audit.specs.declared.blocks.Slot.{Slot}
@@ -9,10 +11,19 @@ use Rattle.rad_audit.specs.Judging.{AreJudged}
 abbrev pub read_into : Slot → List ℕ
 read_into slot = slot.line.octets.items
 
+-- The octets of the lines that were read into a block
+abbrev pub octets_in : Block → List (List ℕ)
+octets_in block = map read_into (take (min block.count (vec_len block.slots)) block.slots.items)
+
 -- The octets of the lines of a part, in their order
 abbrev pub octets_of : Part → List (List ℕ)
 octets_of (part.Lines lines) = map (λ line. line.octets.now) lines.items
 octets_of part.NoMemory = []
+
+-- The lines of a part
+abbrev pub lines_of : Part → List FileLine
+lines_of (part.Lines lines) = lines.items
+lines_of part.NoMemory = []
 
 -- A part has all its lines
 abbrev pub IsWhole : Part → Type 0

@@ -5,10 +5,12 @@ pub mod Facts
 pub mod Files
 pub mod Judging
 pub mod Kept
+pub mod Lanes
 pub mod Lines
 pub mod Printed
 pub mod Rows
 pub mod Shown
 pub mod Statuses
 pub mod Taking
+pub mod Telling
 pub mod Times

@@ -3,7 +3,7 @@ use Rattle.std.specs.Prelude.{◌≡◌, ℕ, ◌-◌, Bool, true, false, not, �
 use Rattle.ledger_rules.specs.declared.tally.Verdict.{Verdict}
 use Rattle.ledger_rules.specs.declared.tally.Verdict.TheVariants.{Open, Missing, Unaccounted, Contradicted}
 use Rattle.ledger_rules.specs.declared.account.Fates.{Fates}
-use Rattle.rad_audit.specs.declared.runs.Lane.{Lane}
+use Rattle.rad_audit.specs.declared.lanes.Lane.{Lane}
 use Rattle.rad_audit.specs.declared.faults.Fault.{Fault}
 use Rattle.rad_audit.specs.declared.faults.Fault.TheVariants.{Usage, File, Configuration, Memory, Output}
 use Rattle.rad_audit.specs.declared.printing.Asked.{Asked}

@@ -1,11 +1,17 @@
 //! The audit of files.
 
-ghost use Rattle.std.specs.Prelude.{◌≡◌, ◌↔◌, IfErr, IfOk, IsTrue, MatchOption, None};
-ghost use Rattle.rad_audit.specs.Blocks.{IsJudgedPart};
+ghost use Rattle.std.specs.Prelude.{◌≡◌, ◌↔◌, [], ◌∷◌, All, flat_map, IfErr, IfOk, OnOk, IsTrue, MatchOption};
+ghost use Rattle.std.specs.BTreeMap.{get};
+ghost use Rattle.std.specs.Ordering.{nat_cmp};
+ghost use Rattle.rad_config.specs.Configuration.{Configuration};
+ghost use Rattle.rad_audit.specs.Blocks.{IsJudgedPart, IsWhole, lines_of, octets_in};
 ghost use Rattle.rad_audit.specs.Judging.{IsFound, IsJudged, IsJudgedLine};
+ghost use Rattle.rad_audit.specs.Lanes.{AreTaken, EndWith, Follow, StandAlike, TakesOctets, content_of, contents_of};
 ghost use Rattle.rad_audit.specs.Lines.{IsFront};
 ghost use Rattle.rad_audit.specs.Statuses.{IsStatus};
+ghost use Rattle.rad_audit.specs.Telling.{Gets, TellsLane, TellsLanes, TellsRun, TellsRuns};
 ghost use Rattle.rad_audit.specs.declared.faults.Fault.TheVariants.{Output};
+ghost use Rattle.rad_audit.specs.declared.judging.Content.TheVariants as content;
 
 use crate::blocks::{Block, FileLine, Found, Part};
 use crate::chains::LineSum;
@@ -13,17 +19,16 @@ use crate::faults::Fault;
 use crate::hints::Hints;
 use crate::judging::{Content, JudgedEntry, JudgedLine, secret_of_client};
 use crate::kept_sums::KeptSums;
+use crate::lanes::Lane;
 use crate::named_file::{NamedFile, parts_of};
 use crate::printing::{
     Asked, Finding, Findings, LaneCounts, LaneName, LinePlace, NO_FINDINGS, Outputs, Report,
 };
-use crate::runs::{Lane, Run, Runs};
-use crate::taking::{
-    TakenEntry, judge_count, judge_stray, judge_stray_left, take_entry, take_left,
-};
+use crate::runs::{Run, Runs};
+use crate::taking::TakenEntry;
 use crate::ties::{Tie, Ties};
-use ledger_lines::{Begin, End, FileBefore, Hidden, LaneCount, MOST_LINE_OCTETS, moment_of};
-use ledger_rules::{EndCounts, Fates, Left, Reason, RecordCount};
+use ledger_lines::{Begin, End, FileBefore, Hidden, MOST_LINE_OCTETS};
+use ledger_rules::{Entry, Gap, Left, Reason, RecordCount};
 use libc::{STDERR_FILENO, isatty};
 use rad_realms::Config;
 use std::alloc::{AllocError, Global};
@@ -110,13 +115,17 @@ struct Known<'a> {
 
 impl Known<'_> {
     /// Takes the sum of a line of a run in this file.
-    fn see(&mut self, run: u64, file: u64, sum: [u8; 32]) {
+    fn see(&mut self, run: u64, file: u64, sum: [u8; 32])
+        ensures { self.new.runs ≡ self.old.runs }
+    {
         self.sums.see(run, file, sum);
         self.ties.see(run, sum);
     }
 
     /// Looks for the line of another run that a first line names by its sum, if it does: it may have been read, or is read later.
-    fn expect(&mut self, before: Option<FileBefore<'_>>) -> Result<(), AllocError> {
+    fn expect(&mut self, before: Option<FileBefore<'_>>) -> Result<(), AllocError>
+        ensures { self.new.runs ≡ self.old.runs }
+    {
         let Some(
             FileBefore {
                 name,
@@ -292,7 +301,10 @@ impl<'a, W: Write> Audit<'a, W> {
         &mut self,
         rt: &R,
         place: LinePlace<'_>,
-    ) -> Result<u64, Fault> {
+    ) -> Result<u64, Fault>
+        ensures config { self.new.taken.config ≡ self.old.taken.config }
+        ensures taken { OnOk result (TakesOctets self.old.taken.config.now (octets_in self.old.block) self.old.taken.known.runs self.new.taken.known.runs) }
+    {
         let Audit {
             block,
             config,
@@ -300,11 +312,7 @@ impl<'a, W: Write> Audit<'a, W> {
             ..
         } = self;
         let parts = block.judge(rt, config)?;
-        let mut next = place;
-        for part in parts.iter() {
-            next.line = taken.take_part(rt, next, part)?;
-        }
-        Ok(next.line)
+        taken.take_parts(rt, place, parts.as_slice())
     }
 }
 
@@ -314,7 +322,7 @@ impl<'a, W: Write> Taken<'a, W> {
         let Part::Lines(lines) = part else {
             return Err(Fault::Memory);
         };
-        for line in lines.iter() {
+        for line in lines {
             if let Found::Line(
                 JudgedLine {
                     content: Content::Begin(begin),
@@ -328,7 +336,26 @@ impl<'a, W: Write> Taken<'a, W> {
         Ok(())
     }
 
-    /// Takes lines, of which the first one stands here. Returns the number of the next one.
+    /// Takes the lines of parts, of which the first one stands here. Returns the number of the next one.
+    fn take_parts<R: Runtime>(
+        &mut self,
+        rt: &R,
+        place: LinePlace<'_>,
+        parts: &[Part<'_>],
+    ) -> Result<u64, Fault>
+        requires { All IsJudgedPart parts.now }
+        ensures config { self.new.config ≡ self.old.config }
+        ensures whole { OnOk result (All IsWhole parts.now) }
+        ensures taken { OnOk result (AreTaken self.old.config.now (contents_of (flat_map lines_of parts.now)) self.old.known.runs self.new.known.runs) }
+    {
+        let mut next = place;
+        for part in parts {
+            next.line = self.take_part(rt, next, part)?;
+        }
+        Ok(next.line)
+    }
+
+    /// Takes the lines of a part, of which the first one stands here. Returns the number of the next one.
     fn take_part<R: Runtime>(
         &mut self,
         rt: &R,
@@ -336,6 +363,9 @@ impl<'a, W: Write> Taken<'a, W> {
         part: &Part<'_>,
     ) -> Result<u64, Fault>
         requires { IsJudgedPart part.now }
+        ensures config { self.new.config ≡ self.old.config }
+        ensures whole { OnOk result (IsWhole part.now) }
+        ensures taken { OnOk result (AreTaken self.old.config.now (contents_of (lines_of part.now)) self.old.known.runs self.new.known.runs) }
     {
         let Part::Lines(lines) = part else {
             return Err(Fault::Memory);
@@ -353,6 +383,8 @@ impl<'a, W: Write> Taken<'a, W> {
 
     fn take_line(&mut self, place: LinePlace<'_>, line: &FileLine<'_>) -> Result<(), Fault>
         requires { IsFound line.now.octets.now line.now.found }
+        ensures config { self.new.config ≡ self.old.config }
+        ensures taken { OnOk result (AreTaken self.old.config.now (content_of line.now.found) self.old.known.runs self.new.known.runs) }
     {
         self.settle(place.file, line.octets)?;
         self.hints.see(place.line, line.octets);
@@ -365,7 +397,10 @@ impl<'a, W: Write> Taken<'a, W> {
     }
 
     /// Tells of the line before, if it was no line of a ledger. The line behind it has these octets.
-    fn settle(&mut self, file: &str, octets: &[u8]) -> Result<(), Fault> {
+    fn settle(&mut self, file: &str, octets: &[u8]) -> Result<(), Fault>
+        ensures config { self.new.config ≡ self.old.config }
+        ensures runs { self.new.known.runs ≡ self.old.known.runs }
+    {
         let Some(line) = self.held.line else {
             return Ok(());
         };
@@ -381,35 +416,25 @@ impl<'a, W: Write> Taken<'a, W> {
     /// Takes a line of a ledger.
     fn take(&mut self, place: LinePlace<'_>, line: &JudgedLine<'_>) -> Result<(), Fault>
         requires { IsJudgedLine line.now }
+        ensures config { self.new.config ≡ self.old.config }
+        ensures taken { OnOk result (AreTaken self.old.config.now (line.now.content ∷ []) self.old.known.runs self.new.known.runs) }
     {
         let (known, report) = (&mut self.known, &mut self.report);
         let sum = line.sum;
         match &line.content {
-            Content::Entry(judged) => {
-                pass_line(known, report, place, judged.entry.about.run, sum)?;
-                count_entry(&mut known.runs, report, place, judged)
-            }
-            Content::Left(left) => {
-                pass_line(known, report, place, left.about.run, sum)?;
-                count_left(self.config, &mut known.runs, report, place, left)
-            }
-            Content::Count(count) => {
-                pass_line(known, report, place, count.run, sum)?;
-                take_count(&mut known.runs, report, place, count)
-            }
-            Content::Begin(begin) => {
-                begin_file(self.alloc, known, report, place, begin)?;
-                pass_begin(known, report, place, begin, sum)
-            }
-            Content::End(end) => {
-                pass_line(known, report, place, end.run, cut_by(end.hidden, sum))?;
-                take_end(&mut known.runs, report, place, end)
-            }
-            Content::Hidden(hidden) => pass_hidden(known, report, place, hidden),
+            Content::Begin(begin) => take_begin(self.alloc, known, report, place, begin, sum),
+            Content::Entry(judged) => take_entry(known, report, place, judged, sum),
+            Content::Left(left) => take_left(self.config, known, report, place, left, sum),
+            Content::Count(count) => take_count(known, report, place, count, sum),
+            Content::End(end) => take_end(known, report, place, end, sum),
+            Content::Hidden(hidden) => take_hidden(known, report, place, hidden),
         }
     }
 
-    fn hold(&mut self, line: u64, octets: &[u8]) -> Result<(), Fault> {
+    fn hold(&mut self, line: u64, octets: &[u8]) -> Result<(), Fault>
+        ensures config { self.new.config ≡ self.old.config }
+        ensures runs { self.new.known.runs ≡ self.old.known.runs }
+    {
         self.held.octets.clear();
         self.held.octets.extend_from_slice(octets)?;
         self.held.line = Some(line);
@@ -444,6 +469,21 @@ fn clear_place<R: Runtime>(rt: &R) {
     let _ = eprint!(rt; "\u{1b}[K");
 }
 
+/// Takes the first line of a file.
+fn take_begin<W: Write>(
+    alloc: Global,
+    known: &mut Known<'_>,
+    report: &mut Report<'_, W>,
+    place: LinePlace<'_>,
+    begin: &Begin<'_>,
+    sum: Option<LineSum>,
+) -> Result<(), Fault>
+    ensures { OnOk result ((config : Configuration) → Follow config (content.Begin begin.now) known.old.runs known.new.runs) }
+{
+    begin_file(alloc, known, report, place, begin)?;
+    pass_begin(known, report, place, begin, sum)
+}
+
 /// A file begins. Tells if another run began in it before, what is wrong with its number and its lanes, and which files of its run
 /// are missing before it, if any are.
 fn begin_file<W: Write>(
@@ -452,12 +492,14 @@ fn begin_file<W: Write>(
     report: &mut Report<'_, W>,
     place: LinePlace<'_>,
     begin: &Begin<'_>,
-) -> Result<(), Fault> {
+) -> Result<(), Fault>
+    ensures { OnOk result ((config : Configuration) → Follow config (content.Begin begin.now) known.old.runs known.new.runs) }
+{
     if known.begun.is_some_and(|run| run != begin.run) {
         report.tell(Finding::Second(place, begin.run))?;
     }
     known.begun = Some(begin.run);
-    let Some(run) = known.runs.run(begin.run) else {
+    let Some(run) = known.runs.of(begin.run) else {
         known.runs.add(alloc, begin)?;
         return Ok(known.expect(begin.before)?);
     };
@@ -466,7 +508,7 @@ fn begin_file<W: Write>(
     } else if !run.goes_on(begin.lanes.as_slice()) {
         report.tell(Finding::Wrong(place, Reason::OtherLanes))?;
     }
-    match run.files.take(begin.file) {
+    match known.runs.take_file(begin.run, begin.file) {
         Some(files) => report.tell(Finding::Files(place, begin.run, files)),
         None => Ok(()),
     }
@@ -479,24 +521,20 @@ fn pass_begin<W: Write>(
     place: LinePlace<'_>,
     begin: &Begin<'_>,
     sum: Option<LineSum>,
-) -> Result<(), Fault> {
-    let Some(run) = known.runs.run(begin.run) else {
+) -> Result<(), Fault>
+    ensures { StandAlike known.old.runs known.new.runs }
+{
+    let sum = cut_by(begin.hidden, sum);
+    let Some(begun) = known.runs.begin(begin.run, begin.file, sum) else {
         return Ok(());
     };
-    let before = if run.chain.next() == begin.file {
-        run.chain.last()
-    } else {
-        None
-    };
-    let sum = cut_by(begin.hidden, sum);
-    let is_right = run.chain.begin(begin.file, sum);
     if let Some(its) = sum {
-        if let Some(before) = before {
+        if let Some(before) = begun.before {
             known.sums.see(begin.run, begin.file, before);
         }
         known.see(begin.run, begin.file, its.sum);
     }
-    tell_sum(report, place, is_right)
+    tell_sum(report, place, begun.is_right)
 }
 
 fn tell_sum<W: Write>(
@@ -525,57 +563,56 @@ fn pass_line<W: Write>(
     place: LinePlace<'_>,
     run: u64,
     sum: Option<LineSum>,
-) -> Result<(), Fault> {
-    let Some(run) = known.runs.run(run) else {
+) -> Result<(), Fault>
+    ensures { StandAlike known.old.runs known.new.runs }
+{
+    let Some(passed) = known.runs.pass(run, sum) else {
         return Ok(());
     };
-    let is_right = run.chain.pass(sum);
-    let (name, file) = (run.run, run.chain.file());
-    if run.chain.is_sealed() {
+    if passed.is_sealed {
         if let Some(its) = sum {
-            known.see(name, file, its.sum);
+            known.see(run, passed.file, its.sum);
         }
     }
-    tell_sum(report, place, is_right)
+    tell_sum(report, place, passed.is_right)
 }
 
 /// Takes the sum of a line that is left out, as one of the run of the line before it. Tells if there is no such run.
-fn pass_hidden<W: Write>(
+fn take_hidden<W: Write>(
     known: &mut Known<'_>,
     report: &mut Report<'_, W>,
     place: LinePlace<'_>,
     hidden: &Hidden,
-) -> Result<(), Fault> {
-    let Some(run) = known.runs.last() else {
+) -> Result<(), Fault>
+    ensures { (config : Configuration) → Follow config (content.Hidden hidden.now) known.old.runs known.new.runs }
+{
+    let Some(run) = known.runs.hide(hidden) else {
         return report.tell(Finding::Wrong(place, Reason::UnknownLane));
     };
-    run.hide(hidden.lane, hidden.kind);
-    let name = run.run;
     pass_line(
         known,
         report,
         place,
-        name,
+        run,
         Some(LineSum::left_out(hidden.sum)),
     )
 }
 
 /// Takes a count of what became of a response.
 fn take_count<W: Write>(
-    runs: &mut Runs,
+    known: &mut Known<'_>,
     report: &mut Report<'_, W>,
     place: LinePlace<'_>,
     count: &RecordCount<'_>,
-) -> Result<(), Fault> {
-    let lane = match runs.lane(count.run, count.lane) {
-        Some(lane) if lane.home.as_str() == count.home => lane,
-        _ => return report.tell(Finding::Wrong(place, Reason::UnknownLane)),
-    };
-    if let Some(reason) = judge_count(count, &lane.tally, &lane.account) {
-        return report.tell(Finding::Wrong(place, reason));
+    sum: Option<LineSum>,
+) -> Result<(), Fault>
+    ensures { OnOk result ((config : Configuration) → Follow config (content.Count count.now) known.old.runs known.new.runs) }
+{
+    pass_line(known, report, place, count.run, sum)?;
+    match known.runs.take_count(count) {
+        Some(reason) => report.tell(Finding::Wrong(place, reason)),
+        None => Ok(()),
     }
-    lane.ending.go_on();
-    Ok(())
 }
 
 fn is_front(front: &[u8], next: &[u8]) -> bool
@@ -584,99 +621,114 @@ fn is_front(front: &[u8], next: &[u8]) -> bool
     front.len() < next.len() && next.starts_with(front)
 }
 
-fn count_entry<W: Write>(
-    runs: &mut Runs,
+/// Takes an entry.
+fn take_entry<W: Write>(
+    known: &mut Known<'_>,
     report: &mut Report<'_, W>,
     place: LinePlace<'_>,
     judged: &JudgedEntry<'_>,
+    sum: Option<LineSum>,
 ) -> Result<(), Fault>
     requires { IsJudged judged.now }
+    ensures { OnOk result ((config : Configuration) → Follow config (content.Entry judged.now) known.old.runs known.new.runs) }
 {
-    let entry = &judged.entry;
-    let lane = match runs.lane(entry.about.run, entry.about.lane) {
-        Some(lane) if lane.home.as_str() == entry.about.home => lane,
-        _ => return report.tell(Finding::Wrong(place, judge_stray(judged))),
-    };
-    let (tally, account) = (&mut lane.tally, &mut lane.account);
-    match take_entry(judged, tally, account)? {
-        TakenEntry::Wrong(reason) => {
-            if reason == Reason::WrongSent {
-                lane.wrong_sent = lane.wrong_sent.saturating_add(1);
-            }
-            report.tell(Finding::Wrong(place, reason))
-        }
-        TakenEntry::Counted(gap) => {
-            lane.ending.go_on();
-            lane.times.take(moment_of(entry.about.time));
-            if judged.home.is_none() || judged.client.is_none() {
-                lane.not_judged = lane.not_judged.saturating_add(1);
-            }
-            if let Some(gap) = gap {
-                let name = LaneName::of(entry.about.run, lane);
-                report.tell(Finding::Gap(place, name, gap))?;
-            }
-            report.row(place, entry)
-        }
-    }
+    pass_line(known, report, place, judged.entry.about.run, sum)?;
+    let taken = known.runs.take_entry(judged)?;
+    tell_entry(report, place, &judged.entry, taken)
 }
 
-fn count_left<W: Write>(
+/// Tells what became of an entry.
+fn tell_entry<W: Write>(
+    report: &mut Report<'_, W>,
+    place: LinePlace<'_>,
+    entry: &Entry<'_>,
+    taken: TakenEntry,
+) -> Result<(), Fault> {
+    let gap = match taken {
+        TakenEntry::Wrong(reason) => return report.tell(Finding::Wrong(place, reason)),
+        TakenEntry::Counted(gap) => gap,
+    };
+    if let Some(gap) = gap {
+        let about = &entry.about;
+        let name = LaneName {
+            run: about.run,
+            number: about.lane,
+            home: about.home,
+        };
+        report.tell(Finding::Gap(place, name, gap))?;
+    }
+    report.row(place, entry)
+}
+
+/// Takes a request that was left.
+fn take_left<W: Write>(
     config: &Config,
-    runs: &mut Runs,
+    known: &mut Known<'_>,
     report: &mut Report<'_, W>,
     place: LinePlace<'_>,
     left: &Left<'_>,
-) -> Result<(), Fault> {
+    sum: Option<LineSum>,
+) -> Result<(), Fault>
+    ensures { OnOk result (Follow config.now (content.Left left.now) known.old.runs known.new.runs) }
+{
+    pass_line(known, report, place, left.about.run, sum)?;
     let client = secret_of_client(config, left.about.client);
-    let lane = match runs.lane(left.about.run, left.about.lane) {
-        Some(lane) if lane.home.as_str() == left.about.home => lane,
-        _ => {
-            let reason = judge_stray_left(left, client);
-            return report.tell(Finding::Wrong(place, reason));
-        }
-    };
-    match take_left(left, client, &mut lane.account)? {
+    match known.runs.take_left(left, client)? {
         Some(reason) => report.tell(Finding::Wrong(place, reason)),
-        None => {
-            lane.ending.go_on();
-            if client.is_none() {
-                lane.not_judged = lane.not_judged.saturating_add(1);
-            }
-            report.left_row(place, left)
-        }
+        None => report.left_row(place, left),
     }
 }
 
 /// Prints what each lane of each run has, and which runs name no other one, though an earlier one does not either.
 fn tell_runs<W: Write>(report: &mut Report<'_, W>, known: &Known<'_>) -> Result<(), Fault>
-    ensures { IfErr result (λ fault. fault ≡ Output) }
+    ensures fault { IfErr result (λ fault. fault ≡ Output) }
+    ensures printed { OnOk result (Gets (TellsRuns known.now.runs known.now.runs.names.items) (W.contents report.old.outputs.lines.now) (W.contents report.new.outputs.lines.now)) }
 {
     let mut has_untied = false;
-    for run in known.runs.as_slice() {
-        tell_run(report, known, run)?;
-        let is_untied = report.asked.all && run.is_untied();
-        if is_untied && has_untied {
-            report.tell(Finding::Untied(run.run))?;
-        }
-        has_untied = has_untied || is_untied;
+    for name in known.runs.names() {
+        has_untied = tell_named(report, known, *name, has_untied)?;
     }
     Ok(())
 }
 
-/// Prints what each lane of a run has, how many of its lines are left out, if any are, and if the file that it names was not
-/// read.
-fn tell_run<W: Write>(report: &mut Report<'_, W>, known: &Known<'_>, run: &Run) -> Result<(), Fault>
-    ensures { IfErr result (λ fault. fault ≡ Output) }
+/// Prints what the lanes of the run of this name have, and whether it is one more that names no other one. Returns whether
+/// there is one so far.
+fn tell_named<W: Write>(
+    report: &mut Report<'_, W>,
+    known: &Known<'_>,
+    name: u64,
+    has_untied: bool,
+) -> Result<bool, Fault>
+    ensures fault { IfErr result (λ fault. fault ≡ Output) }
+    ensures printed { OnOk result (Gets (λ text. MatchOption (get nat_cmp known.now.runs.runs name) (text ≡ []) (λ run. TellsRun name run text)) (W.contents report.old.outputs.lines.now) (W.contents report.new.outputs.lines.now)) }
+{
+    let Some(run) = known.runs.of(name) else {
+        return Ok(has_untied);
+    };
+    let is_untied = report.asked.all && run.is_untied();
+    tell_lanes(report, name, run)?;
+    report.tell_some(Finding::of_hidden(name, run))?;
+    report.tell_some(missing_before(known, name, run))?;
+    report.tell_some(Finding::of_untied(name, is_untied && has_untied))?;
+    Ok(has_untied || is_untied)
+}
+
+/// Prints what each lane of the run of this name has.
+fn tell_lanes<W: Write>(report: &mut Report<'_, W>, name: u64, run: &Run) -> Result<(), Fault>
+    ensures fault { IfErr result (λ fault. fault ≡ Output) }
+    ensures printed { OnOk result (Gets (TellsLanes name run.now run.now.lanes.items) (W.contents report.old.outputs.lines.now) (W.contents report.new.outputs.lines.now)) }
 {
     for lane in run.lanes.as_slice() {
-        tell_lane(report, run, lane)?;
+        tell_lane(report, name, run, lane)?;
     }
-    if let Some(hidden) = Finding::of_hidden(run) {
-        report.tell(hidden)?;
-    }
+    Ok(())
+}
+
+/// Returns the file that a run names, if it was not read.
+fn missing_before<'a>(known: &Known<'_>, name: u64, run: &'a Run) -> Option<Finding<'a>> {
     match &run.before {
-        Some(file) if !has(known, file) => report.tell(Finding::Before(run.run, file)),
-        _ => Ok(()),
+        Some(file) if !has(known, file) => Some(Finding::Before(name, file)),
+        _ => None,
     }
 }
 
@@ -691,60 +743,70 @@ fn has(known: &Known<'_>, file: &NamedFile) -> bool {
     }
 }
 
-fn tell_lane<W: Write>(report: &mut Report<'_, W>, run: &Run, lane: &Lane) -> Result<(), Fault>
-    ensures { IfErr result (λ fault. fault ≡ Output) }
+fn tell_lane<W: Write>(
+    report: &mut Report<'_, W>,
+    run_name: u64,
+    run: &Run,
+    lane: &Lane,
+) -> Result<(), Fault>
+    ensures fault { IfErr result (λ fault. fault ≡ Output) }
+    ensures printed { OnOk result (Gets (TellsLane run_name run.now lane.now) (W.contents report.old.outputs.lines.now) (W.contents report.new.outputs.lines.now)) }
 {
-    let counts = LaneCounts::of(run, lane);
+    let counts = LaneCounts::of(run_name, run, lane);
     let name = counts.name;
     report.tell(Finding::Lane(counts))?;
-    if let Some(part) = Finding::of_part(counts) {
-        report.tell(part)?;
-    }
-    if let Some(fates) = Finding::of_fates(name, lane) {
-        report.tell(fates)?;
-    }
-    if !lane.account.is_exact() {
-        report.tell(Finding::Ranges(name))?;
-    }
-    match Finding::of_back(name, lane) {
-        Some(back) => report.tell(back),
-        None => Ok(()),
-    }
+    report.tell_some(Finding::of_part(counts))?;
+    report.tell_some(Finding::of_fates(name, lane))?;
+    report.tell_some(Finding::of_ranges(name, lane))?;
+    report.tell_some(Finding::of_back(name, lane))
 }
 
+/// Takes a line that ends a run.
 fn take_end<W: Write>(
+    known: &mut Known<'_>,
+    report: &mut Report<'_, W>,
+    place: LinePlace<'_>,
+    end: &End<'_>,
+    sum: Option<LineSum>,
+) -> Result<(), Fault>
+    ensures { OnOk result ((config : Configuration) → Follow config (content.End end.now) known.old.runs known.new.runs) }
+{
+    pass_line(known, report, place, end.run, cut_by(end.hidden, sum))?;
+    known.runs.end(end.run);
+    end_lanes(&mut known.runs, report, place, end)
+}
+
+/// Takes what that line counts of each lane.
+fn end_lanes<W: Write>(
     runs: &mut Runs,
     report: &mut Report<'_, W>,
     place: LinePlace<'_>,
     end: &End<'_>,
-) -> Result<(), Fault> {
-    if let Some(run) = runs.run(end.run) {
-        run.ended = true;
-    }
+) -> Result<(), Fault>
+    ensures { OnOk result (EndWith end.now.run end.now.lanes.items runs.old runs.new) }
+{
     for count in end.lanes.iter() {
-        let Some(lane) = runs.lane(end.run, count.lane) else {
-            report.tell(Finding::Wrong(place, Reason::UnknownLane))?;
-            continue;
-        };
-        let fates = fates_of(count);
-        lane.ending.end(EndCounts {
-            entries: count.entries,
-            fates,
-        });
-        lane.account.end(fates);
-        if let Some(gap) = lane.tally.end(count.entries) {
-            let name = LaneName::of(end.run, lane);
-            report.tell(Finding::Gap(place, name, gap))?;
-        }
+        let ended = runs.end_lane(end.run, count);
+        tell_ended(runs, report, place, end.run, count.lane, ended)?;
     }
     Ok(())
 }
 
-fn fates_of(count: &LaneCount) -> Option<Fates>
-    ensures { MatchOption count.now.accepted (result ≡ None) (λ accepted. MatchOption count.now.left (result ≡ None) (λ left. MatchOption result ⊥ (λ fates. (fates.accepted ≡ accepted) × (fates.left ≡ left)))) }
-{
-    match (count.accepted, count.left) {
-        (Some(accepted), Some(left)) => Some(Fates { accepted, left }),
-        _ => None,
+/// Tells of a gap behind the last entry of a lane, or that its run does not name it.
+fn tell_ended<W: Write>(
+    runs: &Runs,
+    report: &mut Report<'_, W>,
+    place: LinePlace<'_>,
+    run: u64,
+    number: u16,
+    ended: Result<Option<Gap>, Reason>,
+) -> Result<(), Fault> {
+    let gap = match ended {
+        Ok(gap) => gap,
+        Err(reason) => return report.tell(Finding::Wrong(place, reason)),
+    };
+    match (gap, runs.lane(run, number)) {
+        (Some(gap), Some(lane)) => report.tell(Finding::Gap(place, LaneName::of(run, lane), gap)),
+        _ => Ok(()),
     }
 }

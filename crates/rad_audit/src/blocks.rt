@@ -1,7 +1,7 @@
 //! Lines of a file, read some at a time and judged by themselves side by side.
 
-ghost use Rattle.std.specs.Prelude.{◌≡◌, All, IfOk, flat_map, map, min, take, vec_len};
-ghost use Rattle.rad_audit.specs.Blocks.{HaveLines, IsJudgedPart, IsWhole, octets_of, read_into};
+ghost use Rattle.std.specs.Prelude.{◌≡◌, All, IfOk, flat_map, map};
+ghost use Rattle.rad_audit.specs.Blocks.{HaveLines, IsJudgedPart, IsWhole, octets_in, octets_of, read_into};
 ghost use Rattle.rad_audit.specs.Judging.{AreJudged, IsFound};
 
 use crate::judging::{JudgedLine, judge_line};
@@ -132,7 +132,7 @@ impl Block {
         config: &'a Config,
     ) -> Result<Vec<Part<'a>>, AllocError>
         ensures judged { IfOk result (λ parts. All IsJudgedPart parts.items) }
-        ensures whole { IfOk result (λ parts. HaveLines parts.items (map read_into (take (min self.old.count (vec_len self.old.slots)) self.old.slots.items))) }
+        ensures whole { IfOk result (λ parts. HaveLines parts.items (octets_in self.old)) }
     {
         let alloc = self.alloc;
         let count = self.count.min(self.slots.len());

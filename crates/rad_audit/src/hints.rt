@@ -1,7 +1,8 @@
 //! What may be the cause where lines are wrong alike.
 
+use crate::lanes::Lane;
 use crate::printing::LaneName;
-use crate::runs::{Lane, Run, Runs};
+use crate::runs::{Run, Runs};
 use std::rt::Runtime;
 
 /// What was seen of lines that are wrong alike.
@@ -36,9 +37,9 @@ impl Hints {
         if self.is_packed {
             let _ = eprintln!(rt; "hint: file is compressed with gzip");
         }
-        for run in runs.as_slice() {
-            if let Some(lane) = unsent_lane(run) {
-                let name = LaneName::of(run.run, lane);
+        for name in runs.names() {
+            if let Some(lane) = runs.of(*name).and_then(unsent_lane) {
+                let name = LaneName::of(*name, lane);
                 let _ = eprintln!(rt;
                     "hint: {name}: each entry is WrongSent; is the secret in CONFIG the one of its time?"
                 );

@@ -13,6 +13,7 @@ mod hidden;
 mod hints;
 mod judging;
 mod kept_sums;
+mod lanes;
 mod line_room;
 mod named_file;
 mod printing;

@@ -5,9 +5,10 @@ ghost use Rattle.rad_audit.specs.declared.faults.Fault.TheVariants.{Output};
 ghost use Rattle.rad_audit.specs.Statuses.{is_contradicted as the_is_contradicted, is_covered as the_is_covered, is_missing as the_is_missing, is_open as the_is_open, is_unasked as the_is_unasked};
 
 use crate::faults::{Fault, written};
+use crate::lanes::Lane;
 use crate::named_file::NamedFile;
 use crate::rows::Row;
-use crate::runs::{Lane, Run};
+use crate::runs::Run;
 use crate::shown::Shown;
 use ledger_rules::{Entry, Gap, Left, Reason, Verdict, lane_verdict};
 use std::fmt;
@@ -237,9 +238,9 @@ impl<'a> LaneCounts<'a> {
     ghost use Rattle.ledger_rules.specs.Counting.{Counts};
     ghost use Rattle.ledger_rules.specs.Numbers.{Keeps};
 
-    /// Returns what this lane of a run has.
-    pub fn of(run: &Run, lane: &'a Lane) -> LaneCounts<'a>
-        ensures name { (result.name.run ≡ run.now.run) × (result.name.number ≡ lane.now.number) }
+    /// Returns what this lane of the run of this name has.
+    pub fn of(name: u64, run: &Run, lane: &'a Lane) -> LaneCounts<'a>
+        ensures name { (result.name.run ≡ name) × (result.name.number ≡ lane.now.number) }
         ensures home { result.name.home.now ≡ string_bytes lane.now.home.0 }
         ensures counts { (result.first ≡ lane.now.tally.first) × (result.entries ≡ lane.now.tally.entries) × (result.not_judged ≡ lane.now.not_judged) }
         ensures late { result.late ≡ (not (run.now.files.first == 0) || not (lane.now.tally.first == 0)) }
@@ -253,7 +254,7 @@ impl<'a> LaneCounts<'a> {
         let uncounted = run.ended && lane.account.told().is_none();
         let part = late || (bare || (uncounted || lane.not_judged != 0));
         LaneCounts {
-            name: LaneName::of(run.run, lane),
+            name: LaneName::of(name, lane),
             first: lane.tally.first(),
             late,
             bare,
@@ -268,7 +269,7 @@ impl<'a> LaneCounts<'a> {
 
 impl<'a> Finding<'a> {
     ghost use Rattle.std.specs.Prelude.{◌≡◌, ◌==◌, if◌then◌else◌, None, Some, option_map};
-    ghost use Rattle.rad_audit.specs.declared.printing.Finding.TheVariants.{Back, Fates, Hidden, Part};
+    ghost use Rattle.rad_audit.specs.declared.printing.Finding.TheVariants.{Back, Fates, Hidden, Part, Ranges, Untied};
     ghost use Rattle.rad_audit.specs.Statuses.{is_partial};
 
     /// Returns why a lane is only a part, if it is.
@@ -294,6 +295,17 @@ impl<'a> Finding<'a> {
         Some(Finding::Fates(name, fates))
     }
 
+    /// Returns that the numbers of a lane are of more ranges than are kept, if they are.
+    pub fn of_ranges(name: LaneName<'a>, lane: &Lane) -> Option<Finding<'a>>
+        ensures { result ≡ (if lane.now.account.numbers.exact_from == 0 then None else Some (Ranges name.entry)) }
+    {
+        if lane.account.is_exact() {
+            None
+        } else {
+            Some(Finding::Ranges(name))
+        }
+    }
+
     /// Returns the steps back in time of a lane, if there are any.
     pub fn of_back(name: LaneName<'a>, lane: &Lane) -> Option<Finding<'a>>
         ensures { result ≡ (if lane.now.times.back == 0 then None else Some (Back name.entry lane.now.times.back)) }
@@ -304,13 +316,24 @@ impl<'a> Finding<'a> {
         }
     }
 
-    /// Returns the lines of a run that are left out, if any are.
-    pub fn of_hidden(run: &Run) -> Option<Finding<'a>>
-        ensures { result ≡ (if run.now.chain.hidden == 0 then None else Some (Hidden run.now.run run.now.chain.hidden)) }
+    /// Returns that the run of this name names no other run, if that is to be told.
+    pub fn of_untied(name: u64, is_told: bool) -> Option<Finding<'a>>
+        ensures { result ≡ (if is_told then Some (Untied name) else None) }
+    {
+        if is_told {
+            Some(Finding::Untied(name))
+        } else {
+            None
+        }
+    }
+
+    /// Returns the lines of the run of this name that are left out, if any are.
+    pub fn of_hidden(name: u64, run: &Run) -> Option<Finding<'a>>
+        ensures { result ≡ (if run.now.chain.hidden == 0 then None else Some (Hidden name run.now.chain.hidden)) }
     {
         match run.chain.hidden() {
             0 => None,
-            count => Some(Finding::Hidden(run.run, count)),
+            count => Some(Finding::Hidden(name, count)),
         }
     }
 }
@@ -331,7 +354,10 @@ pub struct Report<'a, W> {
 }
 
 impl<W: Write> Report<'_, W> {
+    ghost use Rattle.std.specs.Prelude.{OnOk};
+    ghost use Rattle.std.specs.Io.KnownBytes.{Appends};
     ghost use Rattle.rad_audit.specs.Statuses.{found_with};
+    ghost use Rattle.rad_audit.specs.Telling.{printed, printed_if};
 
     /// Prints the line of a finding. The status counts it.
     ///
@@ -341,9 +367,21 @@ impl<W: Write> Report<'_, W> {
     pub fn tell(&mut self, finding: Finding<'_>) -> Result<(), Fault>
         ensures findings { self.new.findings ≡ found_with self.old.asked finding.entry self.old.findings }
         ensures fault { IfErr result (λ fault. fault ≡ Output) }
+        ensures printed { OnOk result (Appends (W.contents self.old.outputs.lines.now) (W.contents self.new.outputs.lines.now) (printed finding.entry)) }
     {
         self.findings = self.findings.with(self.asked, finding);
         written(writeln!(self.outputs.lines, "{finding}"))
+    }
+
+    /// The same, if there is one.
+    pub fn tell_some(&mut self, finding: Option<Finding<'_>>) -> Result<(), Fault>
+        ensures fault { IfErr result (λ fault. fault ≡ Output) }
+        ensures printed { OnOk result (Appends (W.contents self.old.outputs.lines.now) (W.contents self.new.outputs.lines.now) (printed_if finding.entry)) }
+    {
+        match finding {
+            Some(finding) => self.tell(finding),
+            None => Ok(()),
+        }
     }
 
     /// Prints the row of an entry, if rows are printed.

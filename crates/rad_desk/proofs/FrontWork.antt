@@ -7,7 +7,6 @@ use Rattle.std.proofs.lemmas.List.Concat.{flat_map-append}
 use Rattle.std.proofs.lemmas.List.Elements.{All-nil, All-cons, All-append}
 use Rattle.rad_config.specs.declared.reading.address.Endpoint.{Endpoint}
 use Rattle.rad_realms.specs.declared.checking.Incoming.{Incoming}
-use Rattle.rad_realms.specs.Configuration.{Configuration}
 use Rattle.rad_realms.specs.Incoming.{Takes}
 use Rattle.rad_realms.specs.Checking.{Drops}
 use Rattle.rad_realms.specs.declared.checking.Dropped.{Dropped}
@@ -24,7 +23,7 @@ use Rattle.locked_lanes.specs.Fates.{AnswersARecord}
 use Rattle.locked_lanes.specs.Inlet.{taken, SameInlet}
 use Rattle.rad_desk.specs.Traffic.{Event, arrived, departed, told, endpoint, noted, logged}
 use Rattle.rad_desk.specs.Calls.{Passes, IsSent, AreAtMost}
-use Rattle.rad_desk.specs.Once.{Replies, IsSilent, IsAnsweredWith, HandsOne, Hands, Part, dropped, silent, back, given, events_of, outcomes_of, IsReceipt, IsRight, TakesIn, IsLeftUntaken, TakesInOnce, Serves, IsStopped, ServesOnce, given_in, given_by, EachGave, WorksInParts}
+use Rattle.rad_desk.specs.Once.{Replies, IsSilent, IsAnsweredWith, HandsOne, Hands, Terms, Recalls, Part, dropped, silent, back, recalled, given, events_of, outcomes_of, IsReceipt, IsRight, TakesIn, IsLeftUntaken, TakesInOnce, Serves, IsStopped, ServesOnce, given_in, given_by, EachGave, WorksInParts}
 use Rattle.rad_desk.specs.HandOver.{handed_at, response_of, handings_of}
 use Rattle.rad_desk.proofs.CallsJoined.{logged_append, passes_none, passes_one, passes_widen, passes_after, most_none}
 use Rattle.rad_desk.proofs.Responses.{again_answers, status_answers}
@@ -116,12 +115,12 @@ handings_append since (part ∷ first) then =
     )
     ∙ sym (append_assoc (each (handed_at since) (response_of part)) (handings_of amid first) (handings_of (logged since (events_of part ++ flat_map events_of first)) then))
 
-module _ (config : Configuration) where
-  pub works_none : (inlets : List Inlet) → WorksInParts config inlets inlets []
+module _ (terms : Terms) where
+  pub works_none : (inlets : List Inlet) → WorksInParts terms inlets inlets []
   works_none inlets = record {
     parts = [];
     passed = refl;
-    right = All-nil (IsRight config (length inlets));
+    right = All-nil (IsRight terms (length inlets));
     gave = gave_none [] 0 inlets (λ at from. refl);
   }
 
@@ -130,26 +129,26 @@ module _ (config : Configuration) where
   handings_none inlets since = refl
 
   -- A part in which no inlet gave anything.
-  works_part : (part : Part) (inlets : List Inlet) (events : List Event) → events ≡ events_of part → IsRight config (length inlets) part → ((at : ℕ) → given_in at part ≡ []) → WorksInParts config inlets inlets events
+  works_part : (part : Part) (inlets : List Inlet) (events : List Event) → events ≡ events_of part → IsRight terms (length inlets) part → ((at : ℕ) → given_in at part ≡ []) → WorksInParts terms inlets inlets events
   works_part part inlets events is right none = record {
     parts = part ∷ [];
     passed = is ∙ sym (append-nil (events_of part));
-    right = All-cons (IsRight config (length inlets)) part [] right (All-nil (IsRight config (length inlets)));
+    right = All-cons (IsRight terms (length inlets)) part [] right (All-nil (IsRight terms (length inlets)));
     gave = gave_none (part ∷ []) 0 inlets (λ at from. append-nil (given_in at part) ∙ none at);
   }
 
   -- Two stretches of work.
-  pub works_append : (old mid new : List Inlet) (first then : List Event) → WorksInParts config old mid first → WorksInParts config mid new then → WorksInParts config old new (first ++ then)
+  pub works_append : (old mid new : List Inlet) (first then : List Event) → WorksInParts terms old mid first → WorksInParts terms mid new then → WorksInParts terms old new (first ++ then)
   works_append old mid new first then a b = record {
     parts = a.parts ++ b.parts;
     passed = ap (λ l. l ++ then) a.passed ∙ ap (λ l. flat_map events_of a.parts ++ l) b.passed ∙ sym (flat_map-append events_of a.parts b.parts);
     right =
-        All-append (IsRight config (length old)) a.parts b.parts a.right
-        (subst (λ n. All (IsRight config n) b.parts) (length-gave a.parts 0 old mid a.gave) b.right);
+        All-append (IsRight terms (length old)) a.parts b.parts a.right
+        (subst (λ n. All (IsRight terms n) b.parts) (length-gave a.parts 0 old mid a.gave) b.right);
     gave = gave_append a.parts b.parts 0 old mid new a.gave b.gave;
   }
 
-  pub handings_join : (old mid new : List Inlet) (since : Option (List Event)) (first then : List Event) (a : WorksInParts config old mid first) (b : WorksInParts config mid new then) → handings_of since (works_append old mid new first then a b).parts ≡ handings_of since a.parts ++ handings_of (logged since first) b.parts
+  pub handings_join : (old mid new : List Inlet) (since : Option (List Event)) (first then : List Event) (a : WorksInParts terms old mid first) (b : WorksInParts terms mid new then) → handings_of since (works_append old mid new first then a b).parts ≡ handings_of since a.parts ++ handings_of (logged since first) b.parts
   unfolding works_append
   handings_join old mid new since first then a b =
       handings_append since a.parts b.parts ∙ ap (λ events. handings_of since a.parts ++ handings_of (logged since events) b.parts) (sym a.passed)
@@ -159,35 +158,37 @@ module _ (config : Configuration) where
   received_gives at (dropped socket from question reason) kind = refl
   received_gives at (silent socket from question outcome) kind = refl
   received_gives at (back socket from question outcome octets delivery) kind = refl
+  received_gives at (recalled socket from question request octets delivery) kind = refl
   received_gives at (given place outgoing delivery) kind = absurd kind
 
   received_handings : (since : Option (List Event)) (part : Part) → IsReceipt part → handings_of since (part ∷ []) ≡ []
   received_handings since (dropped socket from question reason) kind = refl
   received_handings since (silent socket from question outcome) kind = refl
   received_handings since (back socket from question outcome octets delivery) kind = refl
+  received_handings since (recalled socket from question request octets delivery) kind = refl
   received_handings since (given place outgoing delivery) kind = absurd kind
 
   -- What a turn takes in, whatever the inlets are.
-  pub works_taken : (inlets : List Inlet) (before after : List Outcome) (events : List Event) → TakesIn config before after events → WorksInParts config inlets inlets events
-  works_taken inlets before after events (inl none) = subst (WorksInParts config inlets inlets) (sym none.0) (works_none inlets)
+  pub works_taken : (inlets : List Inlet) (before after : List Outcome) (events : List Event) → TakesIn terms before after events → WorksInParts terms inlets inlets events
+  works_taken inlets before after events (inl none) = subst (WorksInParts terms inlets inlets) (sym none.0) (works_none inlets)
   works_taken inlets before after events (inr (part, kind, is, right, added)) = works_part part inlets events is (right (length inlets)) (λ at. received_gives at part kind)
 
-  pub handings_taken : (inlets : List Inlet) (since : Option (List Event)) (before after : List Outcome) (events : List Event) (takes : TakesIn config before after events) → handings_of since (works_taken inlets before after events takes).parts ≡ []
+  pub handings_taken : (inlets : List Inlet) (since : Option (List Event)) (before after : List Outcome) (events : List Event) (takes : TakesIn terms before after events) → handings_of since (works_taken inlets before after events takes).parts ≡ []
   unfolding works_taken works_part works_none
   handings_taken inlets since before after events (inl none) = refl
   handings_taken inlets since before after events (inr (part, kind, is, right, added)) = received_handings since part kind
 
-  pub outcomes_taken : (inlets : List Inlet) (before after : List Outcome) (events : List Event) (takes : TakesIn config before after events) → after ≡ before ++ flat_map outcomes_of (works_taken inlets before after events takes).parts
+  pub outcomes_taken : (inlets : List Inlet) (before after : List Outcome) (events : List Event) (takes : TakesIn terms before after events) → after ≡ before ++ flat_map outcomes_of (works_taken inlets before after events takes).parts
   unfolding works_taken works_part works_none
   outcomes_taken inlets before after events (inl none) = none.1 ∙ sym (append-nil before)
   outcomes_taken inlets before after events (inr (part, kind, is, right, added)) = added ∙ ap (λ l. before ++ l) (sym (append-nil (outcomes_of part)))
 
   -- What a look at the inlet at a place does.
-  pub works_handed_by : (inlets : List Inlet) (place : ℕ) (other now : Inlet) → place < length inlets → (events : List Event) → SameInlet (get_or inlets place other) now → ((taken now ≡ taken (get_or inlets place other)) × (events ≡ [])) ⊎ HandsOne (get_or inlets place other) now events → WorksInParts config inlets (set inlets place now) events
+  pub works_handed_by : (inlets : List Inlet) (place : ℕ) (other now : Inlet) → place < length inlets → (events : List Event) → SameInlet (get_or inlets place other) now → ((taken now ≡ taken (get_or inlets place other)) × (events ≡ [])) ⊎ HandsOne (get_or inlets place other) now events → WorksInParts terms inlets (set inlets place now) events
   works_handed_by inlets place other now within events same (inl none) = record {
     parts = [];
     passed = none.1;
-    right = All-nil (IsRight config (length inlets));
+    right = All-nil (IsRight terms (length inlets));
     gave = gave_still 0 place inlets other now within same none.0;
   }
   works_handed_by inlets place other now within events same (inr one) =
@@ -195,7 +196,7 @@ module _ (config : Configuration) where
       record {
         parts = part ∷ [];
         passed = one.is;
-        right = All-cons (IsRight config (length inlets)) part [] (within, one.answers) (All-nil (IsRight config (length inlets)));
+        right = All-cons (IsRight terms (length inlets)) part [] (within, one.answers) (All-nil (IsRight terms (length inlets)));
         gave = gave_one 0 place place one.outgoing one.delivery inlets other now (omega arith) within same one.took;
       }
 
@@ -211,7 +212,7 @@ module _ (config : Configuration) where
   unfolding works_none
   outcomes_none inlets = refl
 
-  pub outcomes_join : (old mid new : List Inlet) (first then : List Event) (a : WorksInParts config old mid first) (b : WorksInParts config mid new then) → flat_map outcomes_of (works_append old mid new first then a b).parts ≡ flat_map outcomes_of a.parts ++ flat_map outcomes_of b.parts
+  pub outcomes_join : (old mid new : List Inlet) (first then : List Event) (a : WorksInParts terms old mid first) (b : WorksInParts terms mid new then) → flat_map outcomes_of (works_append old mid new first then a b).parts ≡ flat_map outcomes_of a.parts ++ flat_map outcomes_of b.parts
   unfolding works_append
   outcomes_join old mid new first then a b = flat_map-append outcomes_of a.parts b.parts
 
@@ -221,12 +222,12 @@ module _ (config : Configuration) where
   outcomes_handed inlets place other now within events same (inr one) = refl
 
   -- A datagram came, passed the checks and was served.
-  serving : (socket : ℕ) (from : Endpoint) (question : List ℕ) (asked : Incoming) → Takes config from.address from.port question asked → (before after : List Outcome) (then : List Event) → Serves socket from asked before after then → TakesIn config before after (arrived socket from question ∷ then)
+  serving : (socket : ℕ) (from : Endpoint) (question : List ℕ) (asked : Incoming) → Takes terms.config from.address from.port question asked → (before after : List Outcome) (then : List Event) → Serves socket from asked before after then → TakesIn terms before after (arrived socket from question ∷ then)
   serving socket from question asked takes before after then serves = served serves.sends where
-    right : Takes config from.address from.port question serves.outcome.asked
-    right = subst (Takes config from.address from.port question) (sym serves.same) takes
+    right : Takes terms.config from.address from.port question serves.outcome.asked
+    right = subst (Takes terms.config from.address from.port question) (sym serves.same) takes
 
-    served : (IsSilent serves.outcome × (serves.later ≡ [])) ⊎ ((octets : List ℕ) × IsAnsweredWith serves.outcome octets × IsSent socket from octets serves.later) → TakesIn config before after (arrived socket from question ∷ then)
+    served : (IsSilent serves.outcome × (serves.later ≡ [])) ⊎ ((octets : List ℕ) × IsAnsweredWith serves.outcome octets × IsSent socket from octets serves.later) → TakesIn terms before after (arrived socket from question ∷ then)
     served (inl nothing) = inr (
       silent socket from question serves.outcome,
       tt,
@@ -242,36 +243,51 @@ module _ (config : Configuration) where
       serves.added,
     )
 
-  stopping : (socket : ℕ) (from : Endpoint) (question : List ℕ) (asked : Incoming) → Takes config from.address from.port question asked → (before after : List Outcome) (then : List Event) → IsStopped asked before after then → IsLeftUntaken config (arrived socket from question ∷ then) × (after ≡ before)
+  stopping : (socket : ℕ) (from : Endpoint) (question : List ℕ) (asked : Incoming) → Takes terms.config from.address from.port question asked → (before after : List Outcome) (then : List Event) → IsStopped asked before after then → IsLeftUntaken terms (arrived socket from question ∷ then) × (after ≡ before)
   stopping socket from question asked takes before after then stops = (
     inr (
       socket,
       from,
       question,
       stops.0.request,
-      subst (Takes config from.address from.port question) stops.0.is takes,
+      subst (Takes terms.config from.address from.port question) stops.0.is takes,
       ap (λ l. arrived socket from question ∷ l) stops.1,
     ),
     stops.2,
   )
 
-  served_once : (goes : Bool) (socket : ℕ) (from : Endpoint) (question : List ℕ) (asked : Incoming) → Takes config from.address from.port question asked → (before after : List Outcome) (then : List Event) → ServesOnce goes socket from asked before after then → TakesInOnce goes config before after (arrived socket from question ∷ then)
+  served_once : (goes : Bool) (socket : ℕ) (from : Endpoint) (question : List ℕ) (asked : Incoming) → Takes terms.config from.address from.port question asked → (before after : List Outcome) (then : List Event) → ServesOnce goes socket from asked before after then → TakesInOnce goes terms before after (arrived socket from question ∷ then)
   served_once true = serving
   served_once false = stopping
 
   -- A datagram came, and it was served, or dropped, or none came.
-  pub taken_after : (goes : Bool) (socket : ℕ) (from : Endpoint) (question : List ℕ) (asked : Incoming) → Takes config from.address from.port question asked → (before after : List Outcome) (old mid new : Option (List Event)) → mid ≡ noted old (arrived socket from question) → Passes (ServesOnce goes socket from asked before after) mid new → Passes (TakesInOnce goes config before after) old new
+  pub taken_after : (goes : Bool) (socket : ℕ) (from : Endpoint) (question : List ℕ) (asked : Incoming) → Takes terms.config from.address from.port question asked → (before after : List Outcome) (old mid new : Option (List Event)) → mid ≡ noted old (arrived socket from question) → Passes (ServesOnce goes socket from asked before after) mid new → Passes (TakesInOnce goes terms before after) old new
   taken_after goes socket from question asked takes before after =
-      passes_after (ServesOnce goes socket from asked before after) (TakesInOnce goes config before after) (arrived socket from question)
+      passes_after (ServesOnce goes socket from asked before after) (TakesInOnce goes terms before after) (arrived socket from question)
       (served_once goes socket from question asked takes before after)
 
-  pub taken_dropped : (socket : ℕ) (from : Endpoint) (question : List ℕ) (reason : Dropped) → Drops config from.address question reason → (outcomes : List Outcome) (old new : Option (List Event)) → new ≡ noted old (arrived socket from question) → Passes (TakesIn config outcomes outcomes) old new
+  pub taken_dropped : (socket : ℕ) (from : Endpoint) (question : List ℕ) (reason : Dropped) → Drops terms.config from.address question reason → (outcomes : List Outcome) (old new : Option (List Event)) → new ≡ noted old (arrived socket from question) → Passes (TakesIn terms outcomes outcomes) old new
   taken_dropped socket from question reason drops outcomes old new came =
-      passes_one (TakesIn config outcomes outcomes) (arrived socket from question) old new
+      passes_one (TakesIn terms outcomes outcomes) (arrived socket from question) old new
       (inr (dropped socket from question reason, tt, refl, (λ inlets. drops), sym (append-nil outcomes))) came
 
-  pub taken_none : (outcomes : List Outcome) (old new : Option (List Event)) → new ≡ old → Passes (TakesIn config outcomes outcomes) old new
-  taken_none outcomes old new = passes_none (TakesIn config outcomes outcomes) old new (inl (refl, refl))
+  recalling : (socket : ℕ) (from : Endpoint) (question : List ℕ) (asked : Incoming) → Takes terms.config from.address from.port question asked → (octets : List ℕ) → Recalls terms.remembered asked octets → (outcomes : List Outcome) (then : List Event) → IsSent socket from octets then → TakesIn terms outcomes outcomes (arrived socket from question ∷ then)
+  recalling socket from question asked takes octets recalls outcomes then sent = inr (
+    recalled socket from question recalls.request octets sent.delivery,
+    tt,
+    ap (λ l. arrived socket from question ∷ l) sent.is,
+    (λ inlets. (subst (Takes terms.config from.address from.port question) recalls.is takes, recalls.recalled)),
+    sym (append-nil outcomes),
+  )
+
+  -- A request came that is answered from memory.
+  pub taken_recalled : (socket : ℕ) (from : Endpoint) (question : List ℕ) (asked : Incoming) → Takes terms.config from.address from.port question asked → (octets : List ℕ) → Recalls terms.remembered asked octets → (outcomes : List Outcome) (old mid new : Option (List Event)) → mid ≡ noted old (arrived socket from question) → Passes (IsSent socket from octets) mid new → Passes (TakesIn terms outcomes outcomes) old new
+  taken_recalled socket from question asked takes octets recalls outcomes =
+      passes_after (IsSent socket from octets) (TakesIn terms outcomes outcomes) (arrived socket from question)
+      (recalling socket from question asked takes octets recalls outcomes)
+
+  pub taken_none : (outcomes : List Outcome) (old new : Option (List Event)) → new ≡ old → Passes (TakesIn terms outcomes outcomes) old new
+  taken_none outcomes old new = passes_none (TakesIn terms outcomes outcomes) old new (inl (refl, refl))
 
 -- What was handled, and what was sent back for it.
 module _ (socket : ℕ) (from : Endpoint) (asked : Incoming) (moment lanes : ℕ) (d : Datagrams) (before : List Outcome) where
@@ -355,23 +371,24 @@ most_received : (part : Part) → IsReceipt part → AreAtMost 1 1 (events_of pa
 most_received (dropped socket from question reason) kind = record { receives = omega arith; sends = omega arith }
 most_received (silent socket from question outcome) kind = record { receives = omega arith; sends = omega arith }
 most_received (back socket from question outcome octets delivery) kind = record { receives = omega arith; sends = omega arith }
+most_received (recalled socket from question request octets delivery) kind = record { receives = omega arith; sends = omega arith }
 most_received (given place outgoing delivery) kind = absurd kind
 
-most_in : (config : Configuration) (before after : List Outcome) (events : List Event) → TakesIn config before after events → AreAtMost 1 1 events
-most_in config before after events (inl none) = subst (AreAtMost 1 1) (sym none.0) (most_none 1 1)
-most_in config before after events (inr (part, kind, is, right, added)) = subst (AreAtMost 1 1) (sym is) (most_received part kind)
+most_in : (terms : Terms) (before after : List Outcome) (events : List Event) → TakesIn terms before after events → AreAtMost 1 1 events
+most_in terms before after events (inl none) = subst (AreAtMost 1 1) (sym none.0) (most_none 1 1)
+most_in terms before after events (inr (part, kind, is, right, added)) = subst (AreAtMost 1 1) (sym is) (most_received part kind)
 
-most_left : (config : Configuration) (events : List Event) → IsLeftUntaken config events → AreAtMost 1 1 events
-most_left config events (inl none) = subst (AreAtMost 1 1) (sym none) (most_none 1 1)
-most_left config events (inr (socket, from, question, request, takes, is)) =
+most_left : (terms : Terms) (events : List Event) → IsLeftUntaken terms events → AreAtMost 1 1 events
+most_left terms events (inl none) = subst (AreAtMost 1 1) (sym none) (most_none 1 1)
+most_left terms events (inr (socket, from, question, request, takes, is)) =
     subst (AreAtMost 1 1) (sym is) (record { receives = omega arith; sends = omega arith })
 
-most_once : (goes : Bool) (config : Configuration) (before after : List Outcome) (events : List Event) → TakesInOnce goes config before after events → AreAtMost 1 1 events
-most_once true config before after events takes = most_in config before after events takes
-most_once false config before after events takes = most_left config events takes.0
+most_once : (goes : Bool) (terms : Terms) (before after : List Outcome) (events : List Event) → TakesInOnce goes terms before after events → AreAtMost 1 1 events
+most_once true terms before after events takes = most_in terms before after events takes
+most_once false terms before after events takes = most_left terms events takes.0
 
-pub most_taken : (goes : Bool) (config : Configuration) (before after : List Outcome) (old new : Option (List Event)) → Passes (TakesInOnce goes config before after) old new → Passes (AreAtMost 1 1) old new
-most_taken goes config before after = passes_widen (TakesInOnce goes config before after) (AreAtMost 1 1) (most_once goes config before after)
+pub most_taken : (goes : Bool) (terms : Terms) (before after : List Outcome) (old new : Option (List Event)) → Passes (TakesInOnce goes terms before after) old new → Passes (AreAtMost 1 1) old new
+most_taken goes terms before after = passes_widen (TakesInOnce goes terms before after) (AreAtMost 1 1) (most_once goes terms before after)
 
 most_by_hand : (was is : Inlet) (events : List Event) → ((taken is ≡ taken was) × (events ≡ [])) ⊎ HandsOne was is events → AreAtMost 0 1 events
 most_by_hand was is events (inl none) = subst (AreAtMost 0 1) (sym none.1) (most_none 0 1)

@@ -2,13 +2,12 @@
 -- were given and sent, and each right before it was sent.
 use Rattle.std.specs.Prelude.{◌≡◌, List, [], ◌∷◌, ◌++◌, map as each, Option, Some, None}
 use Rattle.std.specs.List.{flat_map}
-use Rattle.rad_realms.specs.Configuration.{Configuration}
 use Rattle.rad_lane.specs.declared.outgoing.Outgoing.{Outgoing}
 use Rattle.locked_lanes.specs.declared.inlet.Inlet.{Inlet}
 use Rattle.locked_lanes.specs.Inlet.{taken}
 use Rattle.rad_desk.specs.Traffic.{Event, logged}
 use Rattle.rad_desk.specs.Handling.{Outcome}
-use Rattle.rad_desk.specs.Once.{Part, dropped, silent, back, given, events_of, outcomes_of, WorksInParts}
+use Rattle.rad_desk.specs.Once.{Terms, Part, dropped, silent, back, recalled, given, events_of, outcomes_of, WorksInParts}
 
 -- A response that was handed over, and all that had passed over the wire by then. A wire may keep no log.
 pub record Handing : Type 0 where
@@ -34,6 +33,7 @@ abbrev pub response_of : Part → List Outgoing
 response_of (dropped socket from question reason) = []
 response_of (silent socket from question outcome) = []
 response_of (back socket from question outcome octets delivery) = []
+response_of (recalled socket from question request octets delivery) = []
 response_of (given place outgoing delivery) = outgoing ∷ []
 
 -- What is handed over in these parts, the first of which began when this had passed: the response of each part, in order,
@@ -46,7 +46,7 @@ handings_of since (part ∷ more) = each (handed_at since) (response_of part) ++
 -- in the order of the parts: the order in which the inlets gave them, and in which they were sent. When each one was handed
 -- over, exactly the parts before it had passed, and it was not yet sent. Those of one inlet are what it gave, by `EachGave` of
 -- the parts. The entrance has exactly the outcomes of the parts, in order, from `came` to `gone`.
-pub record HandsOver (config : Configuration) (old new : List Inlet) (came gone : List Outcome) (since : Option (List Event)) (before after : Option (List Handing)) (events : List Event) : Type 0 where
-  pub work : WorksInParts config old new events
+pub record HandsOver (terms : Terms) (old new : List Inlet) (came gone : List Outcome) (since : Option (List Event)) (before after : Option (List Handing)) (events : List Event) : Type 0 where
+  pub work : WorksInParts terms old new events
   pub entered : gone ≡ came ++ flat_map outcomes_of work.parts
   pub kept : after ≡ kept_with before (handings_of since work.parts)

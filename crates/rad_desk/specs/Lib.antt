@@ -19,6 +19,7 @@ pub mod Once
 pub mod HandOver
 pub mod Marks
 pub mod Reports
+pub mod Resuming
 pub mod Keeping
 pub mod Leaving
 pub mod ToldValues

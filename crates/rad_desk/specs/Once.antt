@@ -1,7 +1,7 @@
 -- What the front does, as its wire sees it (RFC 2866 section 4.2, RFC 5997 section 4.2, own). It is a sequence of parts. In each
 -- part one datagram came, and was dropped or handled, and what answers it was sent back; or what an inlet gave was sent. What each
 -- inlet gave is sent once, in order.
-use Rattle.std.specs.Prelude.{◌≡◌, ◌+◌, ◌<◌, ◌==◌, ⊤, ℕ, List, [], ◌∷◌, ◌++◌, ◌⊎◌, Bool, true, false, length, All, cond, Result, Ok, Err}
+use Rattle.std.specs.Prelude.{◌≡◌, ◌+◌, ◌<◌, ◌==◌, ⊤, ℕ, List, [], ◌∷◌, ◌++◌, ◌⊎◌, Bool, true, false, length, All, cond, Option, Some, None, Result, Ok, Err}
 use Rattle.std.specs.List.{flat_map}
 use Rattle.rad_packet.specs.Packet.{identifier_of, authenticator_of}
 use Rattle.rad_auth.specs.Authenticator.{accounting_response, IsRightResponse}
@@ -10,12 +10,14 @@ use Rattle.rad_realms.specs.declared.checking.Incoming.{Incoming}
 use Rattle.rad_realms.specs.declared.checking.Incoming.TheVariants as incoming
 use Rattle.rad_realms.specs.Checking.{Request as Checked}
 use Rattle.rad_realms.specs.Configuration.{Configuration}
+use Rattle.rad_tables.specs.declared.duplicates.Key.{Key}
 use Rattle.rad_realms.specs.Incoming.{Takes}
 use Rattle.rad_realms.specs.Checking.{Drops}
 use Rattle.rad_realms.specs.declared.checking.Dropped.{Dropped}
 use Rattle.rad_lane.specs.declared.outgoing.Outgoing.{Outgoing}
 use Rattle.rad_lane.specs.declared.accepting.Refusal.{Refusal}
 use Rattle.rad_lane.specs.declared.accepting.Taken.TheVariants.{New, Waiting, Again}
+use Rattle.rad_lane.specs.Accepts.{request_key}
 use Rattle.rad_lane.specs.Datagrams.{Datagrams}
 use Rattle.locked_lanes.specs.declared.inlet.Inlet.{Inlet}
 use Rattle.rad_desk.specs.declared.wire.Delivery.{Delivery}
@@ -27,6 +29,18 @@ use Rattle.locked_lanes.specs.Fates.{AnswersARecord, EachOnce}
 use Rattle.locked_lanes.specs.Inlet.{taken, SameInlet}
 use Rattle.rad_desk.specs.Traffic.{Event, arrived, departed, told, endpoint}
 use Rattle.rad_desk.specs.Calls.{IsSent}
+
+-- What the front works by: its configuration, and the response that an earlier run gave to the request of a key, as far as it is
+-- remembered.
+pub record Terms : Type 0 where
+  pub config : Configuration
+  pub remembered : Key → Option (List ℕ)
+
+abbrev pub terms_of : Configuration → (Key → Option (List ℕ)) → Terms
+terms_of config memory = record { config = config; remembered = memory }
+
+abbrev pub nothing_remembered : Key → Option (List ℕ)
+nothing_remembered key = None
 
 -- The octets answer a request again (RFC 2866 section 4.2). A lawful book gave them as the answer to this request, a
 -- repeat, at this moment. They are a response after a verified reply, have the request's Identifier, and are valid for
@@ -51,6 +65,17 @@ abbrev pub Fits : Incoming → List ℕ → Type 0
 Fits (incoming.Request r) octets =
     (identifier_of octets ≡ identifier_of r.text) × IsRightResponse r.secret (authenticator_of r.text) octets
 Fits (incoming.Status s) octets = ⊤
+
+-- An earlier run gave these octets to a request of this key, and they fit this one under the client's secret of today.
+pub record IsRecalled (memory : Key → Option (List ℕ)) (request : Checked) (octets : List ℕ) : Type 0 where
+  pub remembered : memory (request_key request) ≡ Some octets
+  pub fits : Fits (incoming.Request request) octets
+
+-- The same of a datagram that is a request.
+pub record Recalls (memory : Key → Option (List ℕ)) (asked : Incoming) (octets : List ℕ) : Type 0 where
+  pub request : Checked
+  pub is : asked ≡ incoming.Request request
+  pub recalled : IsRecalled memory request octets
 
 -- The result of a datagram that is answered at once.
 abbrev pub IsAnswering : Result Handled Refusal → Type 0
@@ -94,11 +119,13 @@ pub record IsAnsweredWith (outcome : Outcome) (octets : List ℕ) : Type 0 where
 -- `dropped`, in which a datagram was received on a socket, from this address and port, and dropped for this reason;
 -- `silent`, in which such a datagram was received, the moment was read, and the datagram was handled with this outcome;
 -- `back`, in which also these octets were sent back;
+-- `recalled`, in which this request was received, and answered as an earlier run did, without a lane;
 -- `given`, in which the response was sent that the inlet at this place gave.
 pub data Part : Type 0 where
   dropped : ℕ → Endpoint → List ℕ → Dropped → Part
   silent : ℕ → Endpoint → List ℕ → Outcome → Part
   back : ℕ → Endpoint → List ℕ → Outcome → List ℕ → Delivery → Part
+  recalled : ℕ → Endpoint → List ℕ → Checked → List ℕ → Delivery → Part
   given : ℕ → Outgoing → Delivery → Part
 
 -- An answer is sent back from the socket that received the question, to the address and port that the question came
@@ -108,6 +135,8 @@ events_of (dropped socket from question reason) = arrived socket from question �
 events_of (silent socket from question outcome) = arrived socket from question ∷ told outcome.moment ∷ []
 events_of (back socket from question outcome octets delivery) =
     arrived socket from question ∷ told outcome.moment ∷ departed socket from octets delivery ∷ []
+events_of (recalled socket from question request octets delivery) =
+    arrived socket from question ∷ departed socket from octets delivery ∷ []
 events_of (given place outgoing delivery) =
     departed 0 (endpoint outgoing.client outgoing.port) outgoing.reply.response delivery ∷ []
 
@@ -116,6 +145,7 @@ abbrev pub outcomes_of : Part → List Outcome
 outcomes_of (dropped socket from question reason) = []
 outcomes_of (silent socket from question outcome) = outcome ∷ []
 outcomes_of (back socket from question outcome octets delivery) = outcome ∷ []
+outcomes_of (recalled socket from question request octets delivery) = []
 outcomes_of (given place outgoing delivery) = []
 
 -- A part in which a datagram came.
@@ -123,6 +153,7 @@ abbrev pub IsReceipt : Part → Type 0
 IsReceipt (dropped socket from question reason) = ⊤
 IsReceipt (silent socket from question outcome) = ⊤
 IsReceipt (back socket from question outcome octets delivery) = ⊤
+IsReceipt (recalled socket from question request octets delivery) = ⊤
 IsReceipt (given place outgoing delivery) = ⊥
 
 -- The inlet gave one response, which answers a record, and that was sent, and nothing else passed.
@@ -137,33 +168,36 @@ abbrev pub Hands : Inlet → Inlet → List Event → Type 0
 Hands old new events = SameInlet old new × (((taken new ≡ taken old) × (events ≡ [])) ⊎ HandsOne old new events)
 
 -- What a valid part is. A datagram was dropped by the checks of this configuration, for this reason; or it passed them, as the request
--- or the Status-Server that was handled, and nothing is sent for it, or what answers it; or the response is of one of the `inlets` inlets,
+-- or the Status-Server that was handled, and nothing is sent for it, or what answers it; or as a request that is answered from memory; or
+-- the response is of one of the `inlets` inlets,
 -- and answers a record of the client and port to which it is sent.
-abbrev pub IsRight : Configuration → ℕ → Part → Type 0
-IsRight config inlets (dropped socket from question reason) = Drops config from.address question reason
-IsRight config inlets (silent socket from question outcome) = Takes config from.address from.port question outcome.asked × IsSilent outcome
-IsRight config inlets (back socket from question outcome octets delivery) =
-    Takes config from.address from.port question outcome.asked × IsAnsweredWith outcome octets
-IsRight config inlets (given place outgoing delivery) = (place < inlets) × AnswersARecord outgoing
+abbrev pub IsRight : Terms → ℕ → Part → Type 0
+IsRight terms inlets (dropped socket from question reason) = Drops terms.config from.address question reason
+IsRight terms inlets (silent socket from question outcome) = Takes terms.config from.address from.port question outcome.asked × IsSilent outcome
+IsRight terms inlets (back socket from question outcome octets delivery) =
+    Takes terms.config from.address from.port question outcome.asked × IsAnsweredWith outcome octets
+IsRight terms inlets (recalled socket from question request octets delivery) =
+    Takes terms.config from.address from.port question (incoming.Request request) × IsRecalled terms.remembered request octets
+IsRight terms inlets (given place outgoing delivery) = (place < inlets) × AnswersARecord outgoing
 
 -- At most one datagram came, and it is a valid part. What it led to, if it was handled, was added to the outcomes.
-abbrev pub TakesIn : Configuration → List Outcome → List Outcome → List Event → Type 0
-TakesIn config before after events =
+abbrev pub TakesIn : Terms → List Outcome → List Outcome → List Event → Type 0
+TakesIn terms before after events =
     ((events ≡ []) × (after ≡ before))
-    ⊎ ((part : Part) × IsReceipt part × (events ≡ events_of part) × ((inlets : ℕ) → IsRight config inlets part)
+    ⊎ ((part : Part) × IsReceipt part × (events ≡ events_of part) × ((inlets : ℕ) → IsRight terms inlets part)
     × (after ≡ before ++ outcomes_of part))
 
 -- At most one datagram came: a valid request, which is not passed to its lane, since the worker is stopped.
-abbrev pub IsLeftUntaken : Configuration → List Event → Type 0
-IsLeftUntaken config events =
+abbrev pub IsLeftUntaken : Terms → List Event → Type 0
+IsLeftUntaken terms events =
     (events ≡ [])
     ⊎ ((socket : ℕ) × (from : Endpoint) × (question : List ℕ) × (request : Checked)
-    × Takes config from.address from.port question (incoming.Request request) × (events ≡ arrived socket from question ∷ []))
+    × Takes terms.config from.address from.port question (incoming.Request request) × (events ≡ arrived socket from question ∷ []))
 
 -- What passed where the worker received: one part, or none, if it goes on.
-abbrev pub TakesInOnce : Bool → Configuration → List Outcome → List Outcome → List Event → Type 0
-TakesInOnce true config before after events = TakesIn config before after events
-TakesInOnce false config before after events = IsLeftUntaken config events × (after ≡ before)
+abbrev pub TakesInOnce : Bool → Terms → List Outcome → List Outcome → List Event → Type 0
+TakesInOnce true terms before after events = TakesIn terms before after events
+TakesInOnce false terms before after events = IsLeftUntaken terms events × (after ≡ before)
 
 -- A valid datagram was handled: the moment was read, the outcome was added to the outcomes, and what answers the datagram was sent back,
 -- from the socket that received it, to the address and port that it came from, or nothing was sent. If the worker is stopped, it is a
@@ -189,6 +223,7 @@ abbrev pub given_in : ℕ → Part → List Outgoing
 given_in place (dropped socket from question reason) = []
 given_in place (silent socket from question outcome) = []
 given_in place (back socket from question outcome octets delivery) = []
+given_in place (recalled socket from question request octets delivery) = []
 given_in place (given other outgoing delivery) = cond (other == place) (outgoing ∷ []) []
 
 abbrev pub given_by : ℕ → List Part → List Outgoing
@@ -204,24 +239,24 @@ EachGave parts place [] (b ∷ now) = ⊥
 EachGave parts place (a ∷ then) [] = ⊥
 
 -- The front works in valid parts.
-pub record WorksInParts (config : Configuration) (old new : List Inlet) (events : List Event) : Type 0 where
+pub record WorksInParts (terms : Terms) (old new : List Inlet) (events : List Event) : Type 0 where
   pub parts : List Part
   pub passed : events ≡ flat_map events_of parts
-  pub right : All (IsRight config (length old)) parts
+  pub right : All (IsRight terms (length old)) parts
   pub gave : EachGave parts 0 old new
 
 -- The front does this, and at the end it may be stopped when a request has just come.
-pub record UntilStopped (config : Configuration) (Does : List Event → Type 0) (events : List Event) : Type 0 where
+pub record UntilStopped (terms : Terms) (Does : List Event → Type 0) (events : List Event) : Type 0 where
   pub before : List Event
   pub last : List Event
   pub passed : events ≡ before ++ last
   pub does : Does before
-  pub stopped : IsLeftUntaken config last
+  pub stopped : IsLeftUntaken terms last
 
-abbrev pub WorksInFront : Configuration → List Inlet → List Inlet → List Event → Type 0
-WorksInFront config old new events = UntilStopped config (WorksInParts config old new) events
+abbrev pub WorksInFront : Terms → List Inlet → List Inlet → List Event → Type 0
+WorksInFront terms old new events = UntilStopped terms (WorksInParts terms old new) events
 
 -- The front does this, and goes on or is stopped.
-abbrev pub DoesOrStops : Bool → Configuration → (List Event → Type 0) → List Event → Type 0
-DoesOrStops true config Does events = Does events
-DoesOrStops false config Does events = UntilStopped config Does events
+abbrev pub DoesOrStops : Bool → Terms → (List Event → Type 0) → List Event → Type 0
+DoesOrStops true terms Does events = Does events
+DoesOrStops false terms Does events = UntilStopped terms Does events

@@ -1,5 +1,5 @@
 -- What passed over a wire (own): the datagrams received and sent, the moments read and the octets drawn, in order.
-use Rattle.std.specs.Prelude.{◌≡◌, ℕ, ◌≤◌, List, [], ◌∷◌, ◌++◌, take, Option, Some, None}
+use Rattle.std.specs.Prelude.{◌≡◌, ℕ, ◌≤◌, ⊤, List, [], ◌∷◌, ◌++◌, take, Option, Some, None}
 use Rattle.rad_config.specs.declared.reading.address.Endpoint.{Endpoint}
 use Rattle.rad_desk.specs.declared.wire.Delivery.{Delivery}
 use Rattle.rad_desk.specs.declared.wire.Passing.{Passing}
@@ -42,3 +42,9 @@ Receives old (Got address port socket count) buffer new =
     (count ≤ 4096) × (new ≡ noted old (arrived socket (endpoint address port) (take count buffer)))
 Receives old Nothing buffer new = new ≡ old
 Receives old Fault buffer new = new ≡ old
+
+-- A received datagram is no longer than the room for it, 4096 octets.
+abbrev pub FitsRoom : Received → Type 0
+FitsRoom (Got address port socket count) = count ≤ 4096
+FitsRoom Nothing = ⊤
+FitsRoom Fault = ⊤

@@ -2,17 +2,17 @@
 
 ghost use Rattle.std.specs.Prelude.{◌≡◌, ◌≤◌, ◌+◌, ◌*◌, ◌↔◌, List, length, IsTrue, MatchBool, option_copied};
 ghost use Rattle.rad_desk.specs.Handling.{Outcome, IsARequest};
-ghost use Rattle.rad_realms.specs.Configuration.{Configuration};
-ghost use Rattle.rad_desk.specs.Calls.{Passes, AreAtMost};
-ghost use Rattle.rad_desk.specs.Once.{WorksInFront, UntilStopped, DoesOrStops, TakesInOnce, ServesOnce, Replies, Hands, Fits};
+ghost use Rattle.rad_desk.specs.Calls.{Passes, AreAtMost, IsSent};
+ghost use Rattle.rad_desk.specs.Once.{Terms, Recalls, terms_of, nothing_remembered, WorksInFront, UntilStopped, DoesOrStops, TakesInOnce, ServesOnce, Replies, Hands, Fits};
 ghost use Rattle.rad_desk.specs.HandOver.{KeepsTaken, HandsOver};
 ghost use Rattle.rad_desk.specs.Keeping.{Keeps};
 ghost use Rattle.rad_desk.specs.Reports.{realm_report};
 
 use crate::gate::{Call, Gate, Repeat, Worker, WorkerReport};
-use crate::handling::{Entrance, Handled, enter};
+use crate::handling::{Entrance, Handled, Handling, Outcomes, handle};
 use crate::ledger::{Ledger, NoLedger};
 use crate::marks::count_marks;
+use crate::memory::{Memory, NothingRemembered};
 use crate::shift::{Arrival, Buffers, Shift};
 use crate::tally::Tally;
 use crate::wire::{Delivery, Wire};
@@ -42,17 +42,18 @@ pub fn front_worker<W: Wire, G: Gate>(
     gate: &G,
     turns: u64,
 ) -> Tally
-    ensures works { Passes (WorksInFront config.now inlets.old inlets.new) (W.log wire.old) (W.log wire.new) }
+    ensures works { Passes (WorksInFront (terms_of config.now nothing_remembered) inlets.old inlets.new) (W.log wire.old) (W.log wire.new) }
     ensures turns { result.turns ≤ turns }
     ensures made { Passes (AreAtMost result.turns (result.turns * (1 + length inlets.old))) (W.log wire.old) (W.log wire.new) }
 {
     let mut ledger = NoLedger;
-    let mut entrance = Entrance::new();
+    let mut entrance = Outcomes::new();
     front_worker_with(
         rt,
         alloc,
         proxy,
         config,
+        &NothingRemembered,
         inlets,
         wire,
         &mut ledger,
@@ -64,22 +65,24 @@ pub fn front_worker<W: Wire, G: Gate>(
 
 /// Serves the clients as [`front_worker`] does, and hands over each response that an inlet gives to a ledger: once, in
 /// the order in which the inlets gave them, and right before it is sent: the ledger's list tells with each response what
-/// had passed over the wire when it was handed over. The list of the entrance tells what each datagram led to that
+/// had passed over the wire when it was handed over. A request that an earlier run answered, as the memory has it, is answered
+/// as then, and goes to no lane. The list of the entrance tells what each datagram led to that
 /// passed the checks: exactly one outcome for each, but for the last one if the gate stops the worker then.
-pub fn front_worker_with<W: Wire, L: Ledger, G: Gate>(
+pub fn front_worker_with<W: Wire, M: Memory, L: Ledger, E: Entrance, G: Gate>(
     rt: &impl Wait,
     alloc: Global,
     proxy: &Proxy,
     config: &Config,
+    memory: &M,
     inlets: &mut [Inlet],
     wire: &mut W,
     ledger: &mut L,
-    entrance: &mut Entrance,
+    entrance: &mut E,
     gate: &G,
     turns: u64,
 ) -> Tally
-    ensures works { Passes (WorksInFront config.now inlets.old inlets.new) (W.log wire.old) (W.log wire.new) }
-    ensures hands_over { Passes (UntilStopped config.now (HandsOver config.now inlets.old inlets.new entrance.old.outcomes entrance.new.outcomes (W.log wire.old) (L.kept ledger.old) (L.kept ledger.new))) (W.log wire.old) (W.log wire.new) }
+    ensures works { Passes (WorksInFront (terms_of config.now (M.remembered memory.now)) inlets.old inlets.new) (W.log wire.old) (W.log wire.new) }
+    ensures hands_over { Passes (UntilStopped (terms_of config.now (M.remembered memory.now)) (HandsOver (terms_of config.now (M.remembered memory.now)) inlets.old inlets.new (E.outcomes entrance.old) (E.outcomes entrance.new) (W.log wire.old) (L.kept ledger.old) (L.kept ledger.new))) (W.log wire.old) (W.log wire.new) }
     ensures turns { result.turns ≤ turns }
     ensures made { Passes (AreAtMost result.turns (result.turns * (1 + length inlets.old))) (W.log wire.old) (W.log wire.new) }
 {
@@ -87,7 +90,15 @@ pub fn front_worker_with<W: Wire, L: Ledger, G: Gate>(
     let mut buffers = Buffers::new();
     for turn in 0..turns {
         shift.tally.turns = turn + 1;
-        if !take_turn(&mut shift, &mut buffers, config, inlets, ledger, entrance) {
+        if !take_turn(
+            &mut shift,
+            &mut buffers,
+            config,
+            memory,
+            inlets,
+            ledger,
+            entrance,
+        ) {
             return shift.tally;
         }
     }
@@ -96,30 +107,32 @@ pub fn front_worker_with<W: Wire, L: Ledger, G: Gate>(
 
 /// Does one turn, and returns whether the worker goes on. A response that an inlet gives in the turn is handed over and
 /// sent before the turn ends, even if the gate stops the worker.
-fn take_turn<R: Wait, W: Wire, L: Ledger, G: Gate>(
+fn take_turn<R: Wait, W: Wire, M: Memory, L: Ledger, E: Entrance, G: Gate>(
     shift: &mut Shift<'_, R, W, G>,
     buffers: &mut Buffers,
     config: &Config,
+    memory: &M,
     inlets: &mut [Inlet],
     ledger: &mut L,
-    entrance: &mut Entrance,
+    entrance: &mut E,
 ) -> bool
-    ensures hands_over { Passes (DoesOrStops result config.now (HandsOver config.now inlets.old inlets.new entrance.old.outcomes entrance.new.outcomes (W.log shift.old.wire.now) (L.kept ledger.old) (L.kept ledger.new))) (W.log shift.old.wire.now) (W.log shift.new.wire.now) }
+    ensures hands_over { Passes (DoesOrStops result (terms_of config.now (M.remembered memory.now)) (HandsOver (terms_of config.now (M.remembered memory.now)) inlets.old inlets.new (E.outcomes entrance.old) (E.outcomes entrance.new) (W.log shift.old.wire.now) (L.kept ledger.old) (L.kept ledger.new))) (W.log shift.old.wire.now) (W.log shift.new.wire.now) }
     ensures made { Passes (AreAtMost 1 (1 + length inlets.old)) (W.log shift.old.wire.now) (W.log shift.new.wire.now) }
     ensures keeps { Keeps shift.old shift.new }
 {
-    take_in(shift, buffers, config, ledger, entrance) && hand_out(shift, inlets, ledger)
+    take_in(shift, buffers, config, memory, ledger, entrance) && hand_out(shift, inlets, ledger)
 }
 
 /// Receives once, handles what was received, and returns whether the worker goes on.
-fn take_in<R: Wait, W: Wire, L: Ledger, G: Gate>(
+fn take_in<R: Wait, W: Wire, M: Memory, L: Ledger, E: Entrance, G: Gate>(
     shift: &mut Shift<'_, R, W, G>,
     buffers: &mut Buffers,
     config: &Config,
+    memory: &M,
     ledger: &mut L,
-    entrance: &mut Entrance,
+    entrance: &mut E,
 ) -> bool
-    ensures takes_in { Passes (TakesInOnce result config.now entrance.old.outcomes entrance.new.outcomes) (W.log shift.old.wire.now) (W.log shift.new.wire.now) }
+    ensures takes_in { Passes (TakesInOnce result (terms_of config.now (M.remembered memory.now)) (E.outcomes entrance.old) (E.outcomes entrance.new)) (W.log shift.old.wire.now) (W.log shift.new.wire.now) }
     ensures kept { L.kept ledger.new ≡ L.kept ledger.old }
     ensures keeps { Keeps shift.old shift.new }
 {
@@ -128,14 +141,14 @@ fn take_in<R: Wait, W: Wire, L: Ledger, G: Gate>(
     };
     let Arrival { from, octets, .. } = arrival;
     match check_in(config, from.address, from.port, octets) {
-        Ok(incoming) => serve(
-            shift,
-            &arrival,
-            &incoming,
-            &mut buffers.datagram,
-            ledger,
-            entrance,
-        ),
+        Ok(incoming) => {
+            let written = &mut buffers.datagram;
+            if recall(memory, &incoming, written) {
+                send_recalled(shift, &arrival, &incoming, written);
+                return true;
+            }
+            serve(shift, &arrival, &incoming, written, ledger, entrance)
+        }
         Err(reason) => {
             shift.report(&WorkerReport::Dropped {
                 reason,
@@ -145,6 +158,36 @@ fn take_in<R: Wait, W: Wire, L: Ledger, G: Gate>(
             true
         }
     }
+}
+
+/// Writes the response that an earlier run gave to a request, if it is remembered, and returns whether it is and fits the
+/// request.
+fn recall<M: Memory>(memory: &M, incoming: &Incoming<'_>, written: &mut Datagram) -> bool
+    ensures { IsTrue result → Recalls (M.remembered memory.now) incoming.now written.new }
+{
+    match incoming {
+        Incoming::Request(request) => memory.recall(request, written) && fits(incoming, written),
+        Incoming::Status(_) => false,
+    }
+}
+
+/// Reports a repeat, and sends back the response that an earlier run gave.
+fn send_recalled<R, W: Wire, G: Gate>(
+    shift: &mut Shift<'_, R, W, G>,
+    arrival: &Arrival<'_>,
+    incoming: &Incoming<'_>,
+    response: &Datagram,
+)
+    ensures sends { Passes (IsSent arrival.now.socket arrival.now.from response.now) (W.log shift.old.wire.now) (W.log shift.new.wire.now) }
+    ensures keeps { Keeps shift.old shift.new }
+{
+    let Arrival { from, socket, .. } = *arrival;
+    shift.report(&WorkerReport::Repeated {
+        repeat: Repeat::Answered,
+        from,
+        octets: octets_of(incoming),
+    });
+    shift.send(socket, from, response.bytes());
 }
 
 /// Reports the realm of a request, if it has one, and how many Proxy-States of this proxy's form it has, if it has any.
@@ -182,15 +225,15 @@ fn report_of_realm<'a>(
 }
 
 /// Passes a request to its lane or answers a Status-Server, and returns whether the worker goes on.
-fn serve<R: Wait, W: Wire, L: Ledger, G: Gate>(
+fn serve<R: Wait, W: Wire, L: Ledger, E: Entrance, G: Gate>(
     shift: &mut Shift<'_, R, W, G>,
     arrival: &Arrival<'_>,
     incoming: &Incoming<'_>,
     datagram: &mut Datagram,
     ledger: &mut L,
-    entrance: &mut Entrance,
+    entrance: &mut E,
 ) -> bool
-    ensures serves { Passes (ServesOnce result arrival.now.socket arrival.now.from incoming.now entrance.old.outcomes entrance.new.outcomes) (W.log shift.old.wire.now) (W.log shift.new.wire.now) }
+    ensures serves { Passes (ServesOnce result arrival.now.socket arrival.now.from incoming.now (E.outcomes entrance.old) (E.outcomes entrance.new)) (W.log shift.old.wire.now) (W.log shift.new.wire.now) }
     ensures kept { L.kept ledger.new ≡ L.kept ledger.old }
     ensures keeps { Keeps shift.old shift.new }
 {
@@ -200,19 +243,19 @@ fn serve<R: Wait, W: Wire, L: Ledger, G: Gate>(
     }
     tell_request(shift, arrival.from, incoming);
     let moment = shift.wire.now();
-    let handled = enter(
+    let result = handle(
         shift.rt,
         shift.alloc,
         shift.proxy,
-        entrance,
         incoming,
         moment,
         datagram,
     );
+    entrance.tell(arrival.socket, incoming, &Handling { moment, result });
     if is_request {
         shift.made(Call::Accept);
     }
-    answer(shift, arrival, incoming, handled, datagram, ledger);
+    answer(shift, arrival, incoming, result, datagram, ledger);
     true
 }
 
@@ -305,7 +348,7 @@ fn hand_out<R, W: Wire, L: Ledger, G: Gate>(
     inlets: &mut [Inlet],
     ledger: &mut L,
 ) -> bool
-    ensures hands_over { (config : Configuration) (came : List Outcome) → Passes (HandsOver config inlets.old inlets.new came came (W.log shift.old.wire.now) (L.kept ledger.old) (L.kept ledger.new)) (W.log shift.old.wire.now) (W.log shift.new.wire.now) }
+    ensures hands_over { (terms : Terms) (came : List Outcome) → Passes (HandsOver terms inlets.old inlets.new came came (W.log shift.old.wire.now) (L.kept ledger.old) (L.kept ledger.new)) (W.log shift.old.wire.now) (W.log shift.new.wire.now) }
     ensures sends { Passes (AreAtMost 0 (length inlets.old)) (W.log shift.old.wire.now) (W.log shift.new.wire.now) }
     ensures keeps { Keeps shift.old shift.new }
 {

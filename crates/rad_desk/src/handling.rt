@@ -24,62 +24,69 @@ pub enum Handled {
     Answered,
 }
 
-/// The list of the datagrams of NASes that were handled: what each of them led to, in order. [`enter`] alone adds to it.
-/// Only clauses see it, and it takes no memory.
+/// When a datagram was handled, and the result.
+#[derive(Clone, Copy, Debug, PartialEq, Eq)]
+pub struct Handling {
+    /// The moment that the lane was told.
+    pub moment: Moment,
+    /// What the datagram led to, or why its lane refuses it.
+    pub result: Result<Handled, Refusal>,
+}
+
+/// What the front tells what each datagram of a NAS led to that passed the checks.
+///
+/// Contracts see it as the list of what it was told so far, in order.
+pub trait Entrance {
+    ghost outcomes: { Self → List Outcome };
+
+    /// Is told what a datagram led to that came to the socket of this index, right after the datagram was handled, and
+    /// before anything is sent for it. It may wait for room, for a second at most, and for nothing else.
+    fn tell(&mut self, socket: u16, asked: &Incoming<'_>, handling: &Handling)
+        ensures { outcomes self.new ≡ outcomes self.old ++ outcome_of asked.now handling.now ∷ [] };
+}
+
+/// The list of the datagrams of NASes that were handled: what each of them led to, in order. Only clauses see it, and it
+/// takes no memory. As an [`Entrance`] it keeps nothing else.
 #[derive(Drop)]
-pub struct Entrance {
+pub struct Outcomes {
     pub ghost outcomes: { List Outcome },
 }
 
-/// When a datagram was handled, and the result.
-#[derive(Clone, Copy)]
-struct Handling {
-    moment: Moment,
-    result: Result<Handled, Refusal>,
-}
-
-impl Model for Entrance {
+impl Model for Outcomes {
     ghost also_owns = { λ _. ftrue };
 }
 
 // It owns nothing.
-unsafe impl Send for Entrance {}
+unsafe impl Send for Outcomes {}
 
-impl Entrance {
+impl Outcomes {
     /// Makes an empty list.
-    pub fn new() -> Entrance
+    pub fn new() -> Outcomes
         ensures { result.outcomes ≡ [] }
     {
-        Entrance {}
+        Outcomes {}
     }
 
-    fn with(_before: &Entrance, _asked: &Incoming<'_>, _handling: &Handling) -> Entrance
+    /// Adds what a datagram led to.
+    pub fn add(&mut self, asked: &Incoming<'_>, handling: &Handling)
+        ensures { self.new.outcomes ≡ self.old.outcomes ++ outcome_of asked.now handling.now ∷ [] }
+    {
+        *self = Outcomes::with(self, asked, handling);
+    }
+
+    fn with(_before: &Outcomes, _asked: &Incoming<'_>, _handling: &Handling) -> Outcomes
         ensures { result.outcomes ≡ _before.now.outcomes ++ outcome_of _asked.now _handling.now ∷ [] }
     {
-        Entrance {}
+        Outcomes {}
     }
 }
 
-/// Handles a datagram as [`handle`] does, and adds what it led to at the end of the list of the entrance.
-///
-/// # Errors
-///
-/// That of [`handle`].
-pub(crate) fn enter(
-    rt: &impl Wait,
-    alloc: Global,
-    proxy: &Proxy,
-    entrance: &mut Entrance,
-    incoming: &Incoming<'_>,
-    moment: Moment,
-    written: &mut Datagram,
-) -> Result<Handled, Refusal>
-    ensures handles { Handles incoming.now moment proxy.now result (record { before = written.old; after = written.new }) }
-    ensures entered { entrance.new.outcomes ≡ entrance.old.outcomes ++ record { asked = incoming.now; moment = moment; result = result } ∷ [] }
-{
-    let result = handle(rt, alloc, proxy, incoming, moment, written);
-    *entrance = Entrance::with(entrance, incoming, &Handling { moment, result });
-    result
+impl Entrance for Outcomes {
+    ghost outcomes = { λ list. list.outcomes };
+
+    fn tell(&mut self, _socket: u16, asked: &Incoming<'_>, handling: &Handling) {
+        self.add(asked, handling);
+    }
 }
 
 /// Passes a NAS's request to the lane of its realm, or answers its Status-Server. What is to be sent to the NAS is

@@ -4,7 +4,8 @@
 //! lock.
 //!
 //! The definitions that the contracts cite are in specs. `Marks` is how many Proxy-States of this proxy's form a
-//! request has, and `Handling` what a checked datagram leads to. `Traffic` is what passes over a wire, `Working` what a
+//! request has, and `Handling` what a checked datagram leads to. `Traffic` is what passes over a wire, `Resuming` what comes in
+//! over one on which requests that wait come in too, `Working` what a
 //! lane's worker may send over it, `Once` what the front may send, and `HandOver` what the front hands over to a ledger.
 //! `Leaving` is what a ledger is told of the requests that are left at the end, and `ToldValues` which values of a request
 //! are told.
@@ -19,6 +20,8 @@ pub mod laws;
 mod leaving;
 mod ledger;
 mod marks;
+mod memory;
+mod resuming;
 mod shift;
 mod tally;
 mod told_values;
@@ -26,7 +29,7 @@ mod wire;
 
 pub use front::{front_worker, front_worker_with};
 pub use gate::{Asked, Call, Gate, Go, Note, Repeat, UpReason, Worker, WorkerReport};
-pub use handling::Entrance;
+pub use handling::{Entrance, Handled, Handling, Outcomes};
 pub use lanes::lane_worker;
 pub use leaving::{LeftRecord, tell_left};
 pub use ledger::{Handed, Ledger, LeftList, NoLedger};
@@ -35,6 +38,8 @@ pub use locked_lanes::{
     Standing, Stepped, Told, open,
 };
 pub use marks::count_marks;
+pub use memory::{Memory, NothingRemembered};
+pub use resuming::{NoneWaits, ResumedWire, WaitingRequests};
 pub use tally::Tally;
 pub use told_values::{status_of, user_of};
 pub use wire::{Delivery, Received, Traffic, Wire};

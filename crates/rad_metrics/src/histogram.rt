@@ -3,19 +3,25 @@
 ghost use Rattle.std.specs.Prelude.{◌≡◌, ◌<◌, ◌≤◌, ◌-◌};
 ghost use Rattle.rad_metrics.specs.Buckets.{bound_of, bound_text};
 
-use crate::counts::{atomics, word_or_0};
+use crate::counts::{APART, atomics, word_or_0};
 use std::alloc::{AllocError, Global};
 use std::sync::atomic::{AtomicU64, Ordering};
 
 /// The number of buckets: one for each bound, and one for what took longer than all of them.
 pub(crate) const BUCKETS: usize = 18;
 
+/// The place of the first bucket's word.
+const FIRST: usize = APART;
+
+/// The place of the word with the sum of all durations, in microseconds.
+const SUM: usize = FIRST + BUCKETS;
+
 /// How often something took how long. Counting takes no lock and no memory.
+///
+/// The words are apart from all else, so no worker waits for what another one counts.
 #[derive(Drop)]
 pub(crate) struct Histogram {
-    counts: Vec<AtomicU64>,
-    /// The sum of all durations, in microseconds.
-    sum: AtomicU64,
+    words: Vec<AtomicU64>,
 }
 
 impl Histogram {
@@ -26,27 +32,30 @@ impl Histogram {
     /// `AllocError` if memory is refused.
     pub(crate) fn new(alloc: Global) -> Result<Histogram, AllocError> {
         Ok(Histogram {
-            counts: atomics(alloc, BUCKETS, 0)?,
-            sum: AtomicU64::new(0),
+            words: atomics(alloc, SUM + 1 + APART, 0)?,
         })
     }
 
     /// Counts a duration of `microseconds` microseconds.
     pub(crate) fn count(&self, microseconds: u64) {
-        if let Some(count) = self.counts.get(bucket_of(microseconds)) {
-            count.fetch_add(1, Ordering::SeqCst);
+        self.add(FIRST + bucket_of(microseconds), 1);
+        self.add(SUM, microseconds);
+    }
+
+    fn add(&self, place: usize, more: u64) {
+        if let Some(word) = self.words.get(place) {
+            word.fetch_add(more, Ordering::SeqCst);
         }
-        self.sum.fetch_add(microseconds, Ordering::SeqCst);
     }
 
     /// Returns how many durations are in a bucket: above the bound of the bucket before it, and not above its own.
     pub(crate) fn get(&self, bucket: usize) -> u64 {
-        word_or_0(self.counts.get(bucket))
+        word_or_0(self.words.get(bucket.saturating_add(FIRST)))
     }
 
     /// Returns the sum of all durations, in microseconds.
     pub(crate) fn sum(&self) -> u64 {
-        self.sum.load(Ordering::SeqCst)
+        word_or_0(self.words.get(SUM))
     }
 }
 

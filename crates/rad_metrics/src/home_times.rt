@@ -81,14 +81,15 @@ impl HomeTimes {
         }
     }
 
-    /// Records that the request of this number is sent for the first time, under this pair. If the front, whose turn
-    /// began at `front`, has not reported its acceptance yet, it was accepted in that turn.
-    pub(crate) fn first_sent(&self, number: u64, slot: Slot, front: u64, now: u64) {
-        let accepted = match place_by(&self.waiting, number) {
-            Some(place) => time_in(place.load(Ordering::SeqCst), number),
-            None => None,
-        };
-        store(&self.accepted, slot, accepted.unwrap_or(front));
+    /// Returns when the request of this number was accepted, if the front has reported that.
+    pub(crate) fn accepted_at(&self, number: u64) -> Option<u64> {
+        let place = place_by(&self.waiting, number)?;
+        time_in(place.load(Ordering::SeqCst), number)
+    }
+
+    /// Records that a request that was accepted at this time is sent for the first time, under this pair.
+    pub(crate) fn first_sent(&self, slot: Slot, accepted: u64, now: u64) {
+        store(&self.accepted, slot, accepted);
         store(&self.sent, slot, now.max(1));
     }
 

@@ -12,6 +12,7 @@ use crate::realm_numbers::RealmNumbers;
 use crate::socket_numbers::SocketNumbers;
 use rad_desk::{Worker, WorkerReport};
 use rad_realms::{Config, Endpoint};
+use rad_tables::Slot;
 use std::alloc::{AllocError, Global};
 use std::collections::BTreeMap;
 use std::sync::Wait;
@@ -75,34 +76,48 @@ impl<'a, R: Clock> Numbers<'a, R> {
         })
     }
 
-    /// Records what a worker reports.
+    /// Records a report that is of no event and is not logged, and returns whether it is one.
+    pub fn take(&self, worker: Worker, report: &WorkerReport<'_>) -> bool {
+        match *report {
+            WorkerReport::Woke => self.begin_turn(worker),
+            WorkerReport::Requested { lane, rank } => self.realms.count(lane, rank),
+            WorkerReport::RequestedUnlisted { .. } => self.realms.count_unlisted(),
+            WorkerReport::FirstSent { number, slot } => {
+                self.first_sent(worker_row(worker), number, slot);
+            }
+            _ => return false,
+        }
+        true
+    }
+
+    /// Records any other report.
     pub fn report(&self, its: &Classified<'_>) {
-        let Classified { report, row, .. } = *its;
         self.count(its);
         if its.worker == Worker::Front {
             self.count_of_client(its);
         }
-        match *report {
-            WorkerReport::Woke => self.begin_turn(its.worker),
-            WorkerReport::Requested { lane, rank } => self.realms.count(lane, rank),
-            WorkerReport::RequestedUnlisted { .. } => self.realms.count_unlisted(),
-            _ => {
-                if let Some(home) = row.checked_sub(1).and_then(|lane| self.homes.get(lane)) {
-                    self.report_of_home(home, report, row);
-                }
-            }
+        if let Some(home) = self.home(its.row) {
+            self.report_of_home(home, its.report, its.row);
         }
     }
 
-    /// Records what is reported of the home server in this row. Each time is read only where it is recorded: the front's
-    /// is written by another thread than that of a lane's worker.
+    /// Records that the worker in this row sends the request of this number for the first time. If the front has not
+    /// reported its acceptance yet, it was accepted in the front's turn. Only then is that read: another thread writes it.
+    fn first_sent(&self, row: usize, number: u64, slot: Slot) {
+        let Some(home) = self.home(row) else {
+            return;
+        };
+        let accepted = match home.times.accepted_at(number) {
+            Some(time) => time,
+            None => self.turn(0),
+        };
+        home.times.first_sent(slot, accepted, self.turn(row));
+    }
+
+    /// Records what is reported of the home server in this row. Each time is read only where it is recorded.
     fn report_of_home(&self, home: &HomeCell, report: &WorkerReport<'_>, row: usize) {
         match *report {
             WorkerReport::Accepted { number, .. } => home.times.was_accepted(number, self.turn(0)),
-            WorkerReport::FirstSent { number, slot } => {
-                home.times
-                    .first_sent(number, slot, self.turn(0), self.turn(row));
-            }
             WorkerReport::Answered { serial, slot, .. } => {
                 home.answered(serial, slot, self.turn(row));
             }
@@ -117,8 +132,7 @@ impl<'a, R: Clock> Numbers<'a, R> {
         }
     }
 
-    /// Records that a turn of a worker begins, which is all that its report says.
-    pub fn begin_turn(&self, worker: Worker) {
+    fn begin_turn(&self, worker: Worker) {
         if let Some(turn) = self.turn_word(worker_row(worker)) {
             turn.store(self.microseconds(), Ordering::SeqCst);
         }
@@ -174,6 +188,11 @@ impl<R: Wait> Numbers<'_, R> {
 }
 
 impl<R> Numbers<'_, R> {
+    /// Returns the home server in a row.
+    fn home(&self, row: usize) -> Option<&HomeCell> {
+        self.homes.get(row.checked_sub(1)?)
+    }
+
     fn turn_word(&self, row: usize) -> Option<&AtomicU64> {
         self.turns.get(row.checked_mul(APART)?)
     }

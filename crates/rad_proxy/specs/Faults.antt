@@ -1,7 +1,7 @@
 -- How the program ends at a fault (own).
 use Rattle.std.specs.Prelude.{ℕ}
 use Rattle.rad_proxy.specs.declared.faults.Fault.{Fault}
-use Rattle.rad_proxy.specs.declared.faults.Fault.TheVariants.{Usage, Input, Clock, File, Configuration, Listen, LaneSocket, Threads, Memory, Events, Output}
+use Rattle.rad_proxy.specs.declared.faults.Fault.TheVariants.{Usage, Input, Clock, File, Configuration, Listen, LaneSocket, Threads, Memory, Events, Spool, Output}
 use Rattle.rad_replay.specs.declared.faults.ReplayFault.{ReplayFault}
 use Rattle.rad_replay.specs.declared.faults.ReplayFault.TheVariants as replaying
 use Rattle.rad_server.specs.declared.faults.ServeFault.{ServeFault}
@@ -19,6 +19,7 @@ status_of (LaneSocket lane) = 4
 status_of Threads = 4
 status_of Memory = 4
 status_of (Events line) = 4
+status_of Spool = 5
 status_of Output = 4
 
 -- A fault that ends a replay ends the program.

@@ -36,6 +36,9 @@ pub enum Fault {
     /// not exist, or cuts more octets than there are.
     #[error("events: line {0}")]
     Events(usize),
+    /// The folder of the spool can't be used: another process holds it, or others may read it. The log has the reason.
+    #[error("spool: refused")]
+    Spool,
     /// Standard output takes nothing more. Its line is not printed.
     #[error("output: failed")]
     Output,
@@ -61,6 +64,7 @@ impl Fault {
             | Fault::Memory
             | Fault::Events(_)
             | Fault::Output => 4,
+            Fault::Spool => 5,
         }
     }
 }

@@ -6,10 +6,13 @@ use rad_files::read_at_most;
 use rad_metrics::{SystemFiles, count_own_descriptors, read_system_file};
 use rad_server::PortSettings;
 use rad_telemetry::{ReplaceFile, RuntimeFiles, TraceFault, TraceText, read_trace_text};
+use spool_files::{FileCalls, SegmentFile};
+use spool_writer::{RuntimeSpoolDisk, SpoolDisk};
 use std::alloc::{AllocGlobal, Global};
 use std::env::{self, Env, VarError};
 use std::fs::{self, Files, OpenFile};
 use std::io::{self, Read, Seek, Write};
+use std::os::fd::AsRawFd;
 use std::random::RandomSource;
 use std::rt::Runtime;
 use std::sync::Wait;
@@ -47,9 +50,17 @@ pub trait Machine: LocalAddresses + PortSettings + SystemFiles + TraceText + Syn
     /// What keeps the files of a ledger.
     type Disk: LedgerDisk + Drop + Send + 'static;
 
+    /// What keeps the files of a spool.
+    type Spool: SpoolDisk<Calls = Self::SpoolCalls> + Drop + Send + 'static;
+
+    /// A file of a spool.
+    type SpoolCalls: FileCalls + Drop + Send + 'static;
+
     fn files(&self) -> Self::Files;
 
     fn disk(&self) -> Self::Disk;
+
+    fn spool(&self) -> Self::Spool;
 }
 
 /// The machine of a runtime.
@@ -67,11 +78,15 @@ impl<R> RuntimeMachine<R> {
 impl<R, F> Machine for RuntimeMachine<R>
 where
     R: Files<File = F> + AllocGlobal + Env + RandomSource + Sync + Copy + Send + 'static,
-    F: Read + Write + Seek + OpenFile + Drop + Send + 'static,
+    F: Read + Write + Seek + OpenFile + AsRawFd + Drop + Send + 'static,
 {
     type Files = RuntimeFiles<R>;
 
     type Disk = RuntimeDisk<R, F>;
+
+    type Spool = RuntimeSpoolDisk<R, F>;
+
+    type SpoolCalls = SegmentFile<F>;
 
     fn files(&self) -> RuntimeFiles<R> {
         RuntimeFiles::new(self.rt)
@@ -79,6 +94,10 @@ where
 
     fn disk(&self) -> RuntimeDisk<R, F> {
         RuntimeDisk::new(self.rt)
+    }
+
+    fn spool(&self) -> RuntimeSpoolDisk<R, F> {
+        RuntimeSpoolDisk::new(self.rt)
     }
 }
 

@@ -1,21 +1,30 @@
 //! The command `run`: it serves a configuration over UDP, and reports the counters.
 
-ghost use denote.Param.Send.{IsSync};
+ghost use denote.Param.Send.{IsSend, IsSync};
 
 use crate::faults::Fault;
 use crate::loading::load;
 use crate::machine::{Host, Machine};
 use crate::small_stack::SmallStack;
 use ledger_state::LedgerState;
-use ledger_writer::{LedgerInlet, OpenedLedger, find_folder, open_ledger, start_writer};
+use ledger_writer::{LedgerInlet, OpenedLedger, draw_name, find_folder, open_ledger, start_writer};
 use libc::{STDIN_FILENO, STDOUT_FILENO};
 use rad_console::EndLine;
+use rad_desk::{NoneWaits, NothingRemembered, Outcomes};
 use rad_log::{ErrorLines, Log, Logged, ToldStream, open_each_level, open_log, tell_reason};
-use rad_realms::Config;
-use rad_server::{Descriptors, ServeFault, Streams, run_with};
+use rad_realms::{Config, Endpoint};
+use rad_server::{
+    Descriptors, Keepers, OwnedEntrance, OwnedLedger, OwnedMemory, OwnedWaiting, ServeFault,
+    Streams, run_with,
+};
 use rad_telemetry::{
     CounterTexts, StopFlag, Telemetry, Tracer, find_counter_file, find_trace_file, report,
     start_texts,
+};
+use spool_files::LocalAddress;
+use spool_writer::{
+    EarlierAnswers, Offers, OpenedSpool, SpoolLedger, SpoolState, find_spool, log_damage,
+    log_spool_fault, log_unfit, open_spool, start_spool_writer,
 };
 use std::alloc::{AllocError, Global};
 use std::io::{self, Error};
@@ -75,15 +84,7 @@ pub fn serve_file<H: Host + Net, M: Machine>(
         trace: trace.as_deref(),
     };
     service.start_writers(file)?;
-    let outcome = match service.start_ledger() {
-        Ok(Some((inlet, state))) => {
-            let outcome = service.serve(Some(inlet), Some(&*state));
-            state.tell_left(&log);
-            outcome
-        }
-        Ok(None) => service.serve(None, None),
-        Err(fault) => Err(fault),
-    };
+    let outcome = service.serve_run(draw_name(rt));
     service.end_writers();
     outcome
 }
@@ -97,6 +98,13 @@ fn check_stack<L: Log>(log: &L) -> Result<(), Fault> {
         }
         None => Ok(()),
     }
+}
+
+/// What is reported on beside the workers.
+#[derive(Clone, Copy)]
+struct Told<'a> {
+    ledger: Option<&'a LedgerState>,
+    spool: Option<&'a SpoolState>,
 }
 
 /// A configuration that is served, and what it is served with.
@@ -149,8 +157,100 @@ impl<'a, H: Host + Net, M: Machine> Service<'a, H, M> {
             .end(self.rt, start, Duration::from_millis(LAST_LINES));
     }
 
-    /// Opens the ledger, if there is to be one, and starts the thread that writes it.
-    fn start_ledger(self) -> Result<Option<(LedgerInlet<'a, H>, Arc<LedgerState>)>, Fault> {
+    /// Opens the spool and the ledger, if there are to be any, for a run of this name, and serves.
+    fn serve_run(self, run: u64) -> Result<EndLine, Fault> {
+        let spool = self.open_spool(run)?;
+        match self.start_ledger(run)? {
+            Some((inlet, state)) => {
+                let outcome = self.serve_spool(spool, Some(inlet), Some(&*state));
+                state.tell_left(self.log);
+                outcome
+            }
+            None => self.serve_spool(spool, None, None),
+        }
+    }
+
+    /// Opens the spool, if there is to be one.
+    fn open_spool(self, run: u64) -> Result<Option<OpenedSpool<'a, H, M::Spool>>, Fault> {
+        let Some(place) = find_spool(self.rt, self.log)? else {
+            return Ok(None);
+        };
+        let mut ours = Vec::with_capacity(self.alloc, 1)?;
+        let Endpoint { address, port } = self.config.listen();
+        if ours.push(LocalAddress { address, port }).is_err() {
+            return Err(Fault::Memory);
+        }
+        let disk = self.machine.spool();
+        match open_spool(self.rt, self.alloc, disk, place, self.config, run, ours) {
+            Ok(spool) => Ok(Some(spool)),
+            Err(fault) => {
+                log_spool_fault(self.log, fault);
+                Err(Fault::Spool)
+            }
+        }
+    }
+
+    /// Serves, over the spool if there is one: a thread of its own writes it, and what earlier runs left comes in again.
+    fn serve_spool(
+        self,
+        spool: Option<OpenedSpool<'a, H, M::Spool>>,
+        inlet: Option<LedgerInlet<'a, H>>,
+        ledger: Option<&'a LedgerState>,
+    ) -> Result<EndLine, Fault> {
+        let left_log = self.telemetry.left_log(self.rt, inlet);
+        let Some(spool) = spool else {
+            let keepers = Keepers {
+                ledger: left_log,
+                entrance: Outcomes::new(),
+                waiting: NoneWaits,
+                memory: NothingRemembered,
+            };
+            return self.serve(
+                keepers,
+                Told {
+                    ledger,
+                    spool: None,
+                },
+            );
+        };
+        let OpenedSpool {
+            inlet,
+            responses,
+            writer,
+            state,
+            notes,
+            requests,
+            answers,
+            disk,
+            faults,
+        } = spool;
+        log_damage(self.log, &faults);
+        let (waiting, unfit) = Offers::new(self.rt, self.alloc, self.config, requests, notes)?;
+        log_unfit(self.log, &unfit);
+        if !start_spool_writer(self.rt, self.alloc, writer, disk) {
+            return Err(self.tell(ServeFault::Threads));
+        }
+        let keepers = Keepers {
+            ledger: SpoolLedger::new(responses, left_log),
+            entrance: inlet,
+            waiting,
+            memory: EarlierAnswers::new(self.rt, self.alloc, self.config, answers)?,
+        };
+        let told = Told {
+            ledger,
+            spool: Some(&*state),
+        };
+        let outcome = self.serve(keepers, told);
+        state.end(self.rt, Duration::from_millis(LAST_ENTRIES));
+        state.tell_left(self.log);
+        outcome
+    }
+
+    /// Opens the ledger of a run, if there is to be one, and starts the thread that writes it.
+    fn start_ledger(
+        self,
+        run: u64,
+    ) -> Result<Option<(LedgerInlet<'a, H>, Arc<LedgerState>)>, Fault> {
         let Some(folder) = find_folder(self.rt, self.log)? else {
             return Ok(None);
         };
@@ -163,6 +263,7 @@ impl<'a, H: Host + Net, M: Machine> Service<'a, H, M> {
             self.alloc,
             folder,
             self.config,
+            run,
             Duration::from_millis(LAST_ENTRIES),
         )?;
         if !start_writer(self.rt, self.alloc, writer, self.machine.disk()) {
@@ -172,10 +273,10 @@ impl<'a, H: Host + Net, M: Machine> Service<'a, H, M> {
     }
 
     /// Serves over the standard streams, while a thread of its own reports the counters. Logs the fault that ends it.
-    fn serve(
+    fn serve<L: OwnedLedger, E: OwnedEntrance, S: OwnedWaiting, N: OwnedMemory>(
         self,
-        inlet: Option<LedgerInlet<'a, H>>,
-        ledger: Option<&'a LedgerState>,
+        keepers: Keepers<L, E, S, N>,
+        told: Told<'_>,
     ) -> Result<EndLine, Fault> {
         let Service {
             rt,
@@ -194,7 +295,8 @@ impl<'a, H: Host + Net, M: Machine> Service<'a, H, M> {
         };
         let reporter = telemetry
             .reporter(texts)
-            .with_ledger(ledger)
+            .with_ledger(told.ledger)
+            .with_spool(told.spool)
             .with_trace(trace);
         let stop = StopFlag::new();
         let stop = &stop;
@@ -202,20 +304,20 @@ impl<'a, H: Host + Net, M: Machine> Service<'a, H, M> {
             thread::scope_env(),
             rt,
             move |scope| -> Result<EndLine, ServeFault>
-                requires { IsSync H.row × IsSync M.row }
+                requires { IsSync H.row × IsSync M.row × IsSend L.row × IsSend E.row × IsSend S.row × IsSend N.row }
             {
                 let reports = scope.spawn(move || report(rt, machine, alloc, reporter, stop));
                 if reports.is_err() {
                     return Err(ServeFault::Threads);
                 }
-                let gate = telemetry.gate_of(rt, ledger);
+                let gate = telemetry.gate_of(rt, told.ledger);
                 let end = run_with(
                     rt,
                     machine,
                     alloc,
                     config,
                     &gate,
-                    telemetry.left_log(rt, inlet),
+                    keepers,
                     Streams {
                         reader: ToldStream::new(rt.reader(), "input-fault", log),
                         writer: ToldStream::new(io::writer(rt), "output-fault", log),
@@ -228,7 +330,7 @@ impl<'a, H: Host + Net, M: Machine> Service<'a, H, M> {
                 if let Err(ServeFault::Ended(worker)) = end {
                     telemetry.tell_end(worker);
                 }
-                end_ledger(rt, ledger, end.is_ok());
+                end_ledger(rt, told.ledger, end.is_ok());
                 stop.set();
                 end
             },

@@ -8,7 +8,9 @@ mod supervising;
 mod threads;
 mod working;
 
-pub use bounds::{Host, OwnedLedger, OwnedWire, SharedGate};
+pub use bounds::{
+    Host, Keepers, OwnedEntrance, OwnedLedger, OwnedMemory, OwnedWaiting, OwnedWire, SharedGate,
+};
 pub(crate) use lingering::{has_passed, linger};
 pub use running::{run, run_with, serve, serve_with};
 pub(crate) use working::Service;

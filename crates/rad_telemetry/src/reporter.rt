@@ -9,6 +9,7 @@ use ledger_state::LedgerState;
 use rad_log::{Log, wait_until_set};
 use rad_metrics::{Draft, Numbers, SystemFiles};
 use rad_realms::Config;
+use spool_writer::SpoolState;
 use std::alloc::Global;
 use std::io;
 use std::sync::atomic::{AtomicU64, Ordering};
@@ -66,12 +67,19 @@ pub struct Reporter<'a, L, R> {
     pub(crate) texts: Option<&'a CounterTexts>,
     /// The ledger, if there is one.
     pub(crate) ledger: Option<&'a LedgerState>,
+    /// The spool, if there is one.
+    pub(crate) spool: Option<&'a SpoolState>,
 }
 
 impl<'a, L, R> Reporter<'a, L, R> {
     /// Makes a reporter that reports on this ledger too, if there is one.
     pub fn with_ledger(self, ledger: Option<&'a LedgerState>) -> Reporter<'a, L, R> {
         Reporter { ledger, ..self }
+    }
+
+    /// Makes a reporter that reports on this spool too, if there is one.
+    pub fn with_spool(self, spool: Option<&'a SpoolState>) -> Reporter<'a, L, R> {
+        Reporter { spool, ..self }
     }
 
     /// Makes a reporter that also looks at this file for what is to be traced, if there is one.
@@ -152,6 +160,9 @@ impl<L: Log, R> Reporter<'_, L, R> {
         self.sums.log(self.log, self.config, counts);
         if let Some(ledger) = self.ledger {
             ledger.tell(self.log);
+        }
+        if let Some(spool) = self.spool {
+            spool.tell(self.log);
         }
     }
 }

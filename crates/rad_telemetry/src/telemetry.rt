@@ -96,6 +96,7 @@ impl<'a, L: Log, R: Clock> Telemetry<'a, L, R> {
             trace: None,
             texts,
             ledger: None,
+            spool: None,
         }
     }
 }
@@ -115,8 +116,8 @@ impl<L: Log, R: Clock> Gate for Telemetry<'_, L, R> {
     }
 
     fn report(&self, worker: Worker, report: &WorkerReport<'_>) {
-        if let WorkerReport::Woke = report {
-            return self.numbers.begin_turn(worker);
+        if self.numbers.take(worker, report) {
+            return;
         }
         let its = Classified::of(worker, report);
         self.sums.keep(&its);

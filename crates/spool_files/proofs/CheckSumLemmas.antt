@@ -1,13 +1,14 @@
--- The tables of what octets make of a register, and eight octets at once.
-use Rattle.std.proofs.Common.{◌≡◌, ◌^◌, ℕ, zero, suc, ◌+◌, ◌-◌, ◌*◌, ◌/◌, ◌%◌, ◌<◌, ◌≤◌, Bool, true, false, cond, ◌&&◌, eqb, T, List, [], ◌∷◌, length, take, drop, get_or, refl, subst, sym, ap, ◌∙◌, arith}
+-- The tables of what octets make of a register, and six registers at once.
+use Rattle.std.proofs.Common.{◌≡◌, ◌^◌, ℕ, zero, suc, ◌+◌, ◌*◌, ◌/◌, ◌%◌, ◌<◌, ◌≤◌, Bool, true, false, cond, ◌&&◌, eqb, T, List, [], ◌∷◌, ◌++◌, length, take, drop, get_or, refl, sym, ap, ◌∙◌, arith}
 use Rattle.std.specs.Prelude.{bit_xor}
 use Rattle.std.specs.Int.Bits.{xor_assoc, xor_self, xor_zero_l, xor_zero_r}
 use Rattle.std.proofs.lemmas.Nat.{xor_comm, xor_mod, xor_shr, xor_block}
-use Rattle.std.proofs.lemmas.List.{take_all, length-drop, get_or-drop}
+use Rattle.std.proofs.lemmas.List.{length-take, length-drop}
 use Rattle.std.specs.Int.{w32, from_le_bytes}
 use Rattle.spool_files.specs.CheckSums.{shifted, shifted_by_eight, register_after}
-use Rattle.spool_files.specs.internal.Registers.{after_octets}
-use Rattle.spool_files.specs.declared.sum_tables.TheConstants.{AFTER_ONE, AFTER_TWO, AFTER_THREE, AFTER_FOUR, AFTER_FIVE, AFTER_SIX, AFTER_SEVEN, AFTER_EIGHT}
+use Rattle.spool_files.specs.internal.Registers.{after_octets, joined_after, word_in}
+use Rattle.spool_files.proofs.FieldLemmas.{AreOctets, from_on, whole}
+use Rattle.spool_files.specs.declared.sum_tables.TheConstants.{AFTER_ONE, AFTER_21, AFTER_22, AFTER_23, AFTER_24}
 
 abbrev polynomial : ℕ
 polynomial = 0xedb88320
@@ -123,111 +124,62 @@ in_four k n =
 abbrev IsTable : ℕ → List ℕ → Type 0
 IsTable k table = (i : ℕ) → i < 256 → get_or table i 0 ≡ after_octets k i
 
--- the first table
-abbrev are_shifted_from : ℕ → List ℕ → Bool
-are_shifted_from first [] = true
-are_shifted_from first (x ∷ xs) = eqb x (shifted_by_eight first) && are_shifted_from (suc first) xs
+abbrev are_after_from : ℕ → ℕ → List ℕ → Bool
+are_after_from k first [] = true
+are_after_from k first (x ∷ xs) = eqb x (after_octets k first) && are_after_from k (suc first) xs
 
-shifted_at : (xs : List ℕ) (first i at : ℕ) → T (are_shifted_from first xs) → i < length xs → at ≡ first + i → get_or xs i 0 ≡ shifted_by_eight at
-shifted_at [] first i at are below is = absurd (omega (arith, below))
-shifted_at (x ∷ xs) first zero at are below is =
+after_at : (k : ℕ) (xs : List ℕ) (first i at : ℕ) → T (are_after_from k first xs) → i < length xs → at ≡ first + i → get_or xs i 0 ≡ after_octets k at
+after_at k [] first i at are below is = absurd (omega (arith, below))
+after_at k (x ∷ xs) first zero at are below is =
     let same : first ≡ at = omega (arith, is) in
-    here x first are ∙ ap shifted_by_eight same
+    here x first are ∙ ap (after_octets k) same
   where
-    here : (x first : ℕ) → T (eqb x (shifted_by_eight first) && are_shifted_from (suc first) xs) → x ≡ shifted_by_eight first
+    here : (x first : ℕ) → T (eqb x (after_octets k first) && are_after_from k (suc first) xs) → x ≡ after_octets k first
     here x first are = grind (arith, are)
-shifted_at (x ∷ xs) first (suc i) at are below is = shifted_at xs (suc first) i at (others (eqb x (shifted_by_eight first)) are) (omega (arith, below)) (omega (arith, is))
+after_at k (x ∷ xs) first (suc i) at are below is = after_at k xs (suc first) i at (others (eqb x (after_octets k first)) are) (omega (arith, below)) (omega (arith, is))
   where
-    others : (b : Bool) → T (b && are_shifted_from (suc first) xs) → T (are_shifted_from (suc first) xs)
+    others : (b : Bool) → T (b && are_after_from k (suc first) xs) → T (are_after_from k (suc first) xs)
     others true are = are
     others false are = absurd are
-
--- each further table has what eight bits make of the one before it
-abbrev are_later : List ℕ → List ℕ → Bool
-are_later [] [] = true
-are_later [] (y ∷ ys) = false
-are_later (x ∷ xs) [] = false
-are_later (x ∷ xs) (y ∷ ys) = eqb y (shifted_by_eight x) && are_later xs ys
-
-later_at : (xs ys : List ℕ) (i : ℕ) → T (are_later xs ys) → i < length xs → get_or ys i 0 ≡ shifted_by_eight (get_or xs i 0)
-later_at [] ys i are below = absurd (omega (arith, below))
-later_at (x ∷ xs) [] i are below = absurd are
-later_at (x ∷ xs) (y ∷ ys) zero are below = here x y are
-  where
-    here : (x y : ℕ) → T (eqb y (shifted_by_eight x) && are_later xs ys) → y ≡ shifted_by_eight x
-    here x y are = grind (arith, are)
-later_at (x ∷ xs) (y ∷ ys) (suc i) are below = later_at xs ys i (others (eqb y (shifted_by_eight x)) are) (omega (arith, below))
-  where
-    others : (b : Bool) → T (b && are_later xs ys) → T (are_later xs ys)
-    others true are = are
-    others false are = absurd are
-
-next : (k : ℕ) (table following : List ℕ) → IsTable k table → length table ≡ 256 → T (are_later table following) → IsTable (suc k) following
-next k table following is long are i below =
-    let within : i < length table = omega (arith, long, below) in
-    later_at table following i are within ∙ ap shifted_by_eight (is i below) ∙ later k i
 
 one : IsTable 1 AFTER_ONE
 unfolding shifted_by_eight shifted
-one i below = shifted_at AFTER_ONE 0 i i tt below (omega arith)
+one i below = after_at 1 AFTER_ONE 0 i i tt below (omega arith)
 
-two : IsTable 2 AFTER_TWO
+is_21 : IsTable 21 AFTER_21
 unfolding shifted_by_eight shifted
-two = next 1 AFTER_ONE AFTER_TWO one refl tt
+is_21 i below = after_at 21 AFTER_21 0 i i tt below (omega arith)
 
-three : IsTable 3 AFTER_THREE
+is_22 : IsTable 22 AFTER_22
 unfolding shifted_by_eight shifted
-three = next 2 AFTER_TWO AFTER_THREE two refl tt
+is_22 i below = after_at 22 AFTER_22 0 i i tt below (omega arith)
 
-four : IsTable 4 AFTER_FOUR
+is_23 : IsTable 23 AFTER_23
 unfolding shifted_by_eight shifted
-four = next 3 AFTER_THREE AFTER_FOUR three refl tt
+is_23 i below = after_at 23 AFTER_23 0 i i tt below (omega arith)
 
-five : IsTable 5 AFTER_FIVE
+is_24 : IsTable 24 AFTER_24
 unfolding shifted_by_eight shifted
-five = next 4 AFTER_FOUR AFTER_FIVE four refl tt
-
-six : IsTable 6 AFTER_SIX
-unfolding shifted_by_eight shifted
-six = next 5 AFTER_FIVE AFTER_SIX five refl tt
-
-seven : IsTable 7 AFTER_SEVEN
-unfolding shifted_by_eight shifted
-seven = next 6 AFTER_SIX AFTER_SEVEN six refl tt
-
-eight : IsTable 8 AFTER_EIGHT
-unfolding shifted_by_eight shifted
-eight = next 7 AFTER_SEVEN AFTER_EIGHT seven refl tt
+is_24 i below = after_at 24 AFTER_24 0 i i tt below (omega arith)
 
 pub by_one : (register : ℕ) → bit_xor (get_or AFTER_ONE (register % 256) 0) (register / 256) ≡ shifted_by_eight register
 by_one register =
     ap (λ (n : ℕ). bit_xor n (register / 256)) (one (register % 256) (omega arith))
     ∙ sym (in_parts 0 register)
 
-by_four : (k register : ℕ) (fourth third second first : List ℕ) → register < 2 ^ 32
-    → IsTable (suc (suc (suc (suc k)))) fourth → IsTable (suc (suc (suc k))) third → IsTable (suc (suc k)) second → IsTable (suc k) first
-    → bit_xor (bit_xor (bit_xor (get_or fourth (register % 256) 0) (get_or third (register / 256 % 256) 0)) (get_or second (register / 65536 % 256) 0)) (get_or first (register / 16777216) 0)
-    ≡ after_octets (suc (suc (suc (suc k)))) register
-by_four k register fourth third second first fits is4 is3 is2 is1 =
-    let a : get_or fourth (register % 256) 0 ≡ after_octets (suc (suc (suc (suc k)))) (register % 256) = is4 (register % 256) (omega arith) in
-    let b : get_or third (register / 256 % 256) 0 ≡ after_octets (suc (suc (suc k))) (register / 256 % 256) = is3 (register / 256 % 256) (omega arith) in
-    let c : get_or second (register / 65536 % 256) 0 ≡ after_octets (suc (suc k)) (register / 65536 % 256) = is2 (register / 65536 % 256) (omega arith) in
-    let d : get_or first (register / 16777216) 0 ≡ after_octets (suc k) (register / 16777216) = is1 (register / 16777216) (omega (arith, fits)) in
-    ap (λ (n : ℕ). bit_xor (bit_xor (bit_xor n (get_or third (register / 256 % 256) 0)) (get_or second (register / 65536 % 256) 0)) (get_or first (register / 16777216) 0)) a
-    ∙ ap (λ (n : ℕ). bit_xor (bit_xor (bit_xor (after_octets (suc (suc (suc (suc k)))) (register % 256)) n) (get_or second (register / 65536 % 256) 0)) (get_or first (register / 16777216) 0)) b
-    ∙ ap (λ (n : ℕ). bit_xor (bit_xor (bit_xor (after_octets (suc (suc (suc (suc k)))) (register % 256)) (after_octets (suc (suc (suc k))) (register / 256 % 256))) n) (get_or first (register / 16777216) 0)) c
-    ∙ ap (bit_xor (bit_xor (bit_xor (after_octets (suc (suc (suc (suc k)))) (register % 256)) (after_octets (suc (suc (suc k))) (register / 256 % 256))) (after_octets (suc (suc k)) (register / 65536 % 256)))) d
-    ∙ sym (in_four k register)
-
-pub by_first_four : (register : ℕ) → register < 2 ^ 32
-    → bit_xor (bit_xor (bit_xor (get_or AFTER_FOUR (register % 256) 0) (get_or AFTER_THREE (register / 256 % 256) 0)) (get_or AFTER_TWO (register / 65536 % 256) 0)) (get_or AFTER_ONE (register / 16777216) 0)
-    ≡ after_octets 4 register
-by_first_four register fits = by_four 0 register AFTER_FOUR AFTER_THREE AFTER_TWO AFTER_ONE fits four three two one
-
-pub by_last_four : (register : ℕ) → register < 2 ^ 32
-    → bit_xor (bit_xor (bit_xor (get_or AFTER_EIGHT (register % 256) 0) (get_or AFTER_SEVEN (register / 256 % 256) 0)) (get_or AFTER_SIX (register / 65536 % 256) 0)) (get_or AFTER_FIVE (register / 16777216) 0)
-    ≡ after_octets 8 register
-by_last_four register fits = by_four 4 register AFTER_EIGHT AFTER_SEVEN AFTER_SIX AFTER_FIVE fits eight seven six five
+pub by_four : (register : ℕ) → register < 2 ^ 32
+    → bit_xor (bit_xor (bit_xor (get_or AFTER_24 (register % 256) 0) (get_or AFTER_23 (register / 256 % 256) 0)) (get_or AFTER_22 (register / 65536 % 256) 0)) (get_or AFTER_21 (register / 16777216) 0)
+    ≡ after_octets 24 register
+by_four register fits =
+    let a : get_or AFTER_24 (register % 256) 0 ≡ after_octets 24 (register % 256) = is_24 (register % 256) (omega arith) in
+    let b : get_or AFTER_23 (register / 256 % 256) 0 ≡ after_octets 23 (register / 256 % 256) = is_23 (register / 256 % 256) (omega arith) in
+    let c : get_or AFTER_22 (register / 65536 % 256) 0 ≡ after_octets 22 (register / 65536 % 256) = is_22 (register / 65536 % 256) (omega arith) in
+    let d : get_or AFTER_21 (register / 16777216) 0 ≡ after_octets 21 (register / 16777216) = is_21 (register / 16777216) (omega (arith, fits)) in
+    together a b c d (in_four 20 register)
+  where
+    together : {t24 t23 t22 t21 a24 a23 a22 a21 whole : ℕ} → t24 ≡ a24 → t23 ≡ a23 → t22 ≡ a22 → t21 ≡ a21 → whole ≡ bit_xor (bit_xor (bit_xor a24 a23) a22) a21
+        → bit_xor (bit_xor (bit_xor t24 t23) t22) t21 ≡ whole
+    together is24 is23 is22 is21 whole_is = cc
 
 -- an octet and what stands above it
 over : (a m : ℕ) → a < 256 → a + m * 256 ≡ bit_xor a (m * 256)
@@ -258,45 +210,82 @@ all_taken r a b c d rest a_lt b_lt c_lt =
 word : (a b c d : ℕ) → from_le_bytes w32 (a ∷ b ∷ c ∷ d ∷ []) ≡ a + (b + (c + d * 256) * 256) * 256
 word a b c d = omega arith
 
-eight_taken : (r a b c d e f g h : ℕ) (rest : List ℕ) → a < 256 → b < 256 → c < 256 → e < 256 → f < 256 → g < 256
-    → register_after (bit_xor (after_octets 8 (bit_xor r (from_le_bytes w32 (a ∷ b ∷ c ∷ d ∷ [])))) (after_octets 4 (from_le_bytes w32 (e ∷ f ∷ g ∷ h ∷ [])))) rest
-    ≡ register_after r (a ∷ b ∷ c ∷ d ∷ e ∷ f ∷ g ∷ h ∷ rest)
-eight_taken r a b c d e f g h rest a_lt b_lt c_lt e_lt f_lt g_lt =
-    let front : ℕ = bit_xor r (a + (b + (c + d * 256) * 256) * 256) in
-    ap (λ (n : ℕ). register_after (bit_xor (after_octets 8 (bit_xor r n)) (after_octets 4 (from_le_bytes w32 (e ∷ f ∷ g ∷ h ∷ [])))) rest) (word a b c d)
-    ∙ ap (λ (n : ℕ). register_after (bit_xor (after_octets 8 front) (after_octets 4 n)) rest) (word e f g h)
-    ∙ ap (λ (n : ℕ). register_after n rest) (sym (after_xor 4 (after_octets 4 front) (e + (f + (g + h * 256) * 256) * 256)))
-    ∙ all_taken (after_octets 4 front) e f g h rest e_lt f_lt g_lt
-    ∙ all_taken r a b c d (e ∷ f ∷ g ∷ h ∷ rest) a_lt b_lt c_lt
+-- ---- registers that are joined
 
--- the same of the front of a list
-first_eight : (l : List ℕ) (r : ℕ) → 8 ≤ length l → ((i : ℕ) → get_or l i 0 < 256)
-    → register_after (bit_xor (after_octets 8 (bit_xor r (from_le_bytes w32 (get_or l 0 0 ∷ get_or l 1 0 ∷ get_or l 2 0 ∷ get_or l 3 0 ∷ [])))) (after_octets 4 (from_le_bytes w32 (get_or l 4 0 ∷ get_or l 5 0 ∷ get_or l 6 0 ∷ get_or l 7 0 ∷ [])))) (drop 8 l)
-    ≡ register_after r l
-first_eight [] r long fit = absurd (omega (arith, long))
-first_eight (a ∷ []) r long fit = absurd (omega (arith, long))
-first_eight (a ∷ b ∷ []) r long fit = absurd (omega (arith, long))
-first_eight (a ∷ b ∷ c ∷ []) r long fit = absurd (omega (arith, long))
-first_eight (a ∷ b ∷ c ∷ d ∷ []) r long fit = absurd (omega (arith, long))
-first_eight (a ∷ b ∷ c ∷ d ∷ e ∷ []) r long fit = absurd (omega (arith, long))
-first_eight (a ∷ b ∷ c ∷ d ∷ e ∷ f ∷ []) r long fit = absurd (omega (arith, long))
-first_eight (a ∷ b ∷ c ∷ d ∷ e ∷ f ∷ g ∷ []) r long fit = absurd (omega (arith, long))
-first_eight (a ∷ b ∷ c ∷ d ∷ e ∷ f ∷ g ∷ h ∷ rest) r long fit = eight_taken r a b c d e f g h rest (fit 0) (fit 1) (fit 2) (fit 4) (fit 5) (fit 6)
+-- what a register that comes in later was worth at the first of the octets
+linear : (l : List ℕ) (r x : ℕ) → register_after (bit_xor r x) l ≡ bit_xor (register_after r l) (after_octets (length l) x)
+linear [] r x = refl
+linear (o ∷ l) r x =
+    ap (λ (n : ℕ). register_after (shifted_by_eight n) l) (xor_assoc r x o ∙ ap (bit_xor r) (xor_comm x o) ∙ sym (xor_assoc r o x))
+    ∙ ap (λ (n : ℕ). register_after n l) (eight_xor (bit_xor r o) x)
+    ∙ linear l (shifted_by_eight (bit_xor r o)) (shifted_by_eight x)
 
-behind : (l : List ℕ) → take (length l - 8) (drop 8 l) ≡ drop 8 l
-behind l = take_all (length l - 8) (drop 8 l) (omega (arith, length-drop 8 l))
+in_front : (n : ℕ) (l : List ℕ) (r : ℕ) → register_after r l ≡ register_after (register_after r (take n l)) (drop n l)
+in_front zero l r = refl
+in_front (suc n) [] r = refl
+in_front (suc n) (o ∷ l) r = in_front n l (shifted_by_eight (bit_xor r o))
 
-pub by_eight : (l octets : List ℕ) (r x y front back start : ℕ) → 8 ≤ length l → ((i : ℕ) → get_or l i 0 < 256) → register_after r l ≡ register_after start octets
-    → x ≡ from_le_bytes w32 (get_or l 0 0 ∷ get_or l 1 0 ∷ get_or l 2 0 ∷ get_or l 3 0 ∷ []) → y ≡ from_le_bytes w32 (get_or l 4 0 ∷ get_or l 5 0 ∷ get_or l 6 0 ∷ get_or l 7 0 ∷ [])
-    → front ≡ after_octets 8 (bit_xor r x) → back ≡ after_octets 4 y
-    → register_after (bit_xor front back) (take (length l - 8) (drop 8 l)) ≡ register_after start octets
-by_eight l octets r x y front back start long fit so_far x_is y_is front_is back_is =
-    ap (λ (n : ℕ). register_after (bit_xor n back) (take (length l - 8) (drop 8 l))) (front_is ∙ ap (λ (n : ℕ). after_octets 8 (bit_xor r n)) x_is)
-    ∙ ap (λ (n : ℕ). register_after (bit_xor (after_octets 8 (bit_xor r (from_le_bytes w32 (get_or l 0 0 ∷ get_or l 1 0 ∷ get_or l 2 0 ∷ get_or l 3 0 ∷ [])))) n) (take (length l - 8) (drop 8 l))) (back_is ∙ ap (after_octets 4) y_is)
-    ∙ ap (register_after _) (behind l)
-    ∙ first_eight l r long fit
-    ∙ so_far
+-- a register, at the octets behind so many others
+abbrev later_on : List ℕ → ℕ → ℕ
+later_on [] x = x
+later_on (c ∷ others) x = later_on others (after_octets 4 x)
 
-pub fit_behind : (l : List ℕ) (i : ℕ) → ((i : ℕ) → get_or l i 0 < 256) → get_or (take (length l - 8) (drop 8 l)) i 0 < 256
-fit_behind l i fit =
-    subst (λ (n : ℕ). n < 256) (sym (ap (λ (m : List ℕ). get_or m i 0) (behind l) ∙ get_or-drop 8 l i 0)) (fit (8 + i))
+-- a register that came in may as well come in behind the others
+put_off : (others : List ℕ) (r x : ℕ) (l : List ℕ) → 4 * length others ≤ length l → joined_after (bit_xor r x) others l ≡ joined_after r (others ++ later_on others x ∷ []) l
+put_off [] r x l long = in_front 4 l (bit_xor r x)
+put_off (c ∷ others) r x l long =
+    let four : length (take 4 l) ≡ 4 = omega (arith, length-take 4 l, long) in
+    ap (λ (n : ℕ). joined_after (register_after n (take 4 l)) others (drop 4 l)) (xor_assoc r x c ∙ ap (bit_xor r) (xor_comm x c) ∙ sym (xor_assoc r c x))
+    ∙ ap (λ (n : ℕ). joined_after n others (drop 4 l)) (linear (take 4 l) (bit_xor r c) x ∙ ap (λ (n : ℕ). bit_xor (register_after (bit_xor r c) (take 4 l)) (after_octets n x)) four)
+    ∙ put_off others (register_after (bit_xor r c) (take 4 l)) (after_octets 4 x) (drop 4 l) (omega (arith, length-drop 4 l, long))
+
+-- where no register comes in
+abbrev none_of : ℕ → List ℕ
+none_of zero = []
+none_of (suc n) = 0 ∷ none_of n
+
+none_in : (n r : ℕ) (l : List ℕ) → joined_after r (none_of n) l ≡ register_after r l
+none_in zero r l = refl
+none_in (suc n) r l =
+    ap (λ (m : ℕ). joined_after (register_after m (take 4 l)) (none_of n) (drop 4 l)) (xor_zero_r r)
+    ∙ none_in n (register_after r (take 4 l)) (drop 4 l)
+    ∙ sym (in_front 4 l r)
+
+pub one_alone : (r : ℕ) (l : List ℕ) → joined_after 0 (r ∷ 0 ∷ 0 ∷ 0 ∷ 0 ∷ 0 ∷ []) l ≡ register_after r l
+one_alone r l =
+    ap (λ (m : ℕ). joined_after (register_after m (take 4 l)) (none_of 5) (drop 4 l)) (xor_zero_l r)
+    ∙ none_in 5 (register_after r (take 4 l)) (drop 4 l)
+    ∙ sym (in_front 4 l r)
+
+-- one register takes its four octets
+word_taken : (a b c d r s t u v w next : ℕ) (rest : List ℕ) → a < 256 → b < 256 → c < 256 → 20 ≤ length rest
+    → next ≡ after_octets 24 (bit_xor r (from_le_bytes w32 (a ∷ b ∷ c ∷ d ∷ [])))
+    → joined_after 0 (r ∷ s ∷ t ∷ u ∷ v ∷ w ∷ []) (a ∷ b ∷ c ∷ d ∷ rest) ≡ joined_after 0 (s ∷ t ∷ u ∷ v ∷ w ∷ next ∷ []) rest
+word_taken a b c d r s t u v w next rest a_lt b_lt c_lt long is =
+    let others : List ℕ = s ∷ t ∷ u ∷ v ∷ w ∷ [] in
+    let taken : ℕ = after_octets 4 (bit_xor r (from_le_bytes w32 (a ∷ b ∷ c ∷ d ∷ []))) in
+    ap (λ (n : ℕ). joined_after (register_after n (a ∷ b ∷ c ∷ d ∷ [])) others rest) (xor_zero_l r)
+    ∙ ap (λ (n : ℕ). joined_after n others rest) (sym (ap (λ (n : ℕ). after_octets 4 (bit_xor r n)) (word a b c d) ∙ all_taken r a b c d [] a_lt b_lt c_lt))
+    ∙ ap (λ (n : ℕ). joined_after n others rest) (sym (xor_zero_l taken))
+    ∙ put_off others 0 taken rest (omega (arith, long))
+    ∙ ap (λ (n : ℕ). joined_after 0 (others ++ n ∷ []) rest) (sym is)
+
+-- and all six do
+pub six_taken : (registers octets more : List ℕ) (a b c d e f u v w x y z : ℕ) → length registers ≡ 6 → length octets ≡ 24 → AreOctets octets → 20 ≤ length more
+    → u ≡ word_in octets 0 → v ≡ word_in octets 4 → w ≡ word_in octets 8 → x ≡ word_in octets 12 → y ≡ word_in octets 16 → z ≡ word_in octets 20
+    → a ≡ after_octets 24 (bit_xor (get_or registers 0 0) u) → b ≡ after_octets 24 (bit_xor (get_or registers 1 0) v) → c ≡ after_octets 24 (bit_xor (get_or registers 2 0) w)
+    → d ≡ after_octets 24 (bit_xor (get_or registers 3 0) x) → e ≡ after_octets 24 (bit_xor (get_or registers 4 0) y) → f ≡ after_octets 24 (bit_xor (get_or registers 5 0) z)
+    → joined_after 0 (a ∷ b ∷ c ∷ d ∷ e ∷ f ∷ []) more ≡ joined_after 0 registers (octets ++ more)
+six_taken registers octets more a b c d e f u v w x y z six all are long u_is v_is w_is x_is y_is z_is a_is b_is c_is d_is e_is f_is =
+    let r : ℕ → ℕ = λ i. get_or registers i 0 in
+    let o : ℕ → ℕ = λ i. get_or octets i 0 in
+    let next : ℕ → ℕ → ℕ = λ register taken. after_octets 24 (bit_xor register taken) in
+    sym (
+    ap (λ (l : List ℕ). joined_after 0 l (octets ++ more)) (sym (whole 6 registers six))
+    ∙ ap (λ (l : List ℕ). joined_after 0 (from_on 6 0 registers) (l ++ more)) (sym (whole 24 octets all))
+    ∙ word_taken (o 0) (o 1) (o 2) (o 3) (r 0) (r 1) (r 2) (r 3) (r 4) (r 5) a (from_on 20 4 octets ++ more) (are 0) (are 1) (are 2) (omega (arith, long)) (a_is ∙ ap (next (r 0)) u_is)
+    ∙ word_taken (o 4) (o 5) (o 6) (o 7) (r 1) (r 2) (r 3) (r 4) (r 5) a b (from_on 16 8 octets ++ more) (are 4) (are 5) (are 6) (omega (arith, long)) (b_is ∙ ap (next (r 1)) v_is)
+    ∙ word_taken (o 8) (o 9) (o 10) (o 11) (r 2) (r 3) (r 4) (r 5) a b c (from_on 12 12 octets ++ more) (are 8) (are 9) (are 10) (omega (arith, long)) (c_is ∙ ap (next (r 2)) w_is)
+    ∙ word_taken (o 12) (o 13) (o 14) (o 15) (r 3) (r 4) (r 5) a b c d (from_on 8 16 octets ++ more) (are 12) (are 13) (are 14) (omega (arith, long)) (d_is ∙ ap (next (r 3)) x_is)
+    ∙ word_taken (o 16) (o 17) (o 18) (o 19) (r 4) (r 5) a b c d e (from_on 4 20 octets ++ more) (are 16) (are 17) (are 18) (omega (arith, long)) (e_is ∙ ap (next (r 4)) y_is)
+    ∙ word_taken (o 20) (o 21) (o 22) (o 23) (r 5) a b c d e f more (are 20) (are 21) (are 22) long (f_is ∙ ap (next (r 5)) z_is))

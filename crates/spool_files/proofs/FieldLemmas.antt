@@ -1,5 +1,5 @@
 -- A field that is read is the field that was written, and what was written is read again.
-use Rattle.std.proofs.Common.{◌≡◌, ℕ, suc, ◌+◌, ◌^◌, ◌<◌, ◌≤◌, Bool, true, false, cond, ltb, List, [], ◌∷◌, ◌++◌, length, get_or, take, drop, Option, Some, None, refl, sym, ap, subst, ◌∙◌, append_assoc, arith, inl, inr}
+use Rattle.std.proofs.Common.{◌≡◌, ℕ, zero, suc, ◌+◌, ◌^◌, ◌<◌, ◌≤◌, Bool, true, false, cond, ltb, List, [], ◌∷◌, ◌++◌, length, get_or, take, drop, Option, Some, None, refl, sym, ap, subst, ◌∙◌, append_assoc, arith, inl, inr}
 use Rattle.std.specs.Int.{Width, w16, w32, w64, byte_len, from_be_bytes, to_be_bytes}
 use Rattle.std.proofs.lemmas.Bool.{cases_lt, ltb-false, le-ltb}
 use Rattle.std.proofs.lemmas.List.{take_at, drop_at, take-append-drop, length-append, length-take, get_or-drop, get_or-take, get_or_past}
@@ -156,3 +156,21 @@ field32 = number_field w32 (2 ^ 32) wide32
 
 pub field64 : IsField (number_at w64) (to_be_bytes w64) (λ (n : ℕ). n < 2 ^ 64)
 field64 = number_field w64 (2 ^ 64) wide64
+
+-- ---- elements
+
+-- so many elements from one on
+abbrev pub from_on : ℕ → ℕ → List ℕ → List ℕ
+from_on zero i l = []
+from_on (suc n) i l = get_or l i 0 ∷ from_on n (suc i) l
+
+behind_one : (n i x : ℕ) (xs : List ℕ) → from_on n (suc i) (x ∷ xs) ≡ from_on n i xs
+behind_one zero i x xs = refl
+behind_one (suc n) i x xs = ap (λ (l : List ℕ). get_or xs i 0 ∷ l) (behind_one n (suc i) x xs)
+
+-- a list is its elements
+pub whole : (n : ℕ) (l : List ℕ) → length l ≡ n → from_on n 0 l ≡ l
+whole zero [] e = refl
+whole zero (x ∷ xs) e = absurd (omega (arith, e))
+whole (suc n) [] e = absurd (omega (arith, e))
+whole (suc n) (x ∷ xs) e = ap (λ (l : List ℕ). x ∷ l) (behind_one n 0 x xs ∙ whole n xs (omega (arith, e)))

@@ -7,7 +7,7 @@ ghost use Rattle.spool_files.specs.Entries.{key_octets, address_octets, begun_oc
 ghost use Rattle.spool_files.specs.Entries.{given_up_octets, head_octets, origin_octets, number_octets};
 ghost use Rattle.spool_files.specs.internal.Fields.{begun_at, came_at, answered_at, given_up_at, head_at};
 
-use crate::entry::{Answered, Begun, Came, GivenUp, Head, LocalAddress};
+use crate::entry::{Answered, Begun, Came, GivenUp, Head};
 use crate::fields::{address_of, first_of, key_of, u16_of, u64_of};
 use rad_tables::Key;
 use std::alloc::AllocError;
@@ -140,14 +140,6 @@ fn kind_and_key(kind: u8, key: &Key) -> [u8; 24]
     ]
 }
 
-fn put_address(octets: &mut Vec<u8>, address: &LocalAddress) -> Result<(), AllocError>
-    ensures { OnOk result (octets.new.items ≡ octets.old.items ++ address_octets address.now) }
-{
-    let a = &address.address;
-    let p = address.port.to_be_bytes();
-    octets.extend_from_slice(&[a[0], a[1], a[2], a[3], p[0], p[1]])
-}
-
 fn put_u64(octets: &mut Vec<u8>, number: u64) -> Result<(), AllocError>
     ensures { OnOk result (octets.new.items ≡ octets.old.items ++ to_be_bytes w64 number) }
 {
@@ -182,20 +174,29 @@ fn put_origin(
     ])
 }
 
-/// Puts the numbers of a request, behind its key and address.
-fn put_numbers(octets: &mut Vec<u8>, came: &Came) -> Result<(), AllocError>
-    ensures { OnOk result (octets.new.items ≡ octets.old.items ++ number_octets came.now) }
+/// Returns the octets of where a request came in, and of its numbers.
+fn octets_of_numbers(came: &Came) -> [u8; 40]
+    ensures { result ≡ address_octets came.now.ours ++ number_octets came.now }
 {
-    put_u64(octets, came.arrival)?;
-    put_origin(octets, came.run, came.lane, came.number, came.moment)
+    let a = &came.ours.address;
+    let p = came.ours.port.to_be_bytes();
+    let v = came.arrival.to_be_bytes();
+    let r = came.run.to_be_bytes();
+    let l = came.lane.to_be_bytes();
+    let n = came.number.to_be_bytes();
+    let m = came.moment.to_be_bytes();
+    [
+        a[0], a[1], a[2], a[3], p[0], p[1], v[0], v[1], v[2], v[3], v[4], v[5], v[6], v[7], r[0],
+        r[1], r[2], r[3], r[4], r[5], r[6], r[7], l[0], l[1], n[0], n[1], n[2], n[3], n[4], n[5],
+        n[6], n[7], m[0], m[1], m[2], m[3], m[4], m[5], m[6], m[7],
+    ]
 }
 
 fn put_came(octets: &mut Vec<u8>, came: &Came) -> Result<(), AllocError>
     ensures { OnOk result (octets.new.items ≡ octets.old.items ++ 2 ∷ came_octets came.now) }
 {
     octets.extend_from_slice(&kind_and_key(2, &came.key))?;
-    put_address(octets, &came.ours)?;
-    put_numbers(octets, came)
+    octets.extend_from_slice(&octets_of_numbers(came))
 }
 
 fn put_answered(octets: &mut Vec<u8>, answered: &Answered) -> Result<(), AllocError>

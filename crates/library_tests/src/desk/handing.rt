@@ -6,8 +6,8 @@ use crate::desk::left::live;
 use crate::desk::setting::{TEXT, start};
 use crate::desk::threads::close;
 use rad_desk::{
-    Call, Delivery, Entrance, Gate, Go, Inlet, Ledger, LeftRecord, Proxy, Received, Wire, Worker,
-    front_worker_with, open,
+    Call, Delivery, Gate, Go, Inlet, Ledger, LeftRecord, NothingRemembered, Outcomes, Proxy,
+    Received, Wire, Worker, front_worker_with, open,
 };
 use rad_lane::Outgoing;
 use rad_realms::Config;
@@ -123,10 +123,11 @@ fn hands_over(
         alloc,
         proxy,
         config,
+        &NothingRemembered,
         inlets,
         &mut wire,
         &mut ledger,
-        &mut Entrance::new(),
+        &mut Outcomes::new(),
         &Willing,
         2,
     );

@@ -3,7 +3,9 @@
 ghost use Rattle.std.specs.Prelude.{length, IfOk, IsSome};
 ghost use Rattle.rad_console.specs.Closing.{IsEndOf};
 
-use super::bounds::{Host, OwnedLedger, OwnedWire, SharedGate};
+use super::bounds::{
+    Host, Keepers, OwnedEntrance, OwnedLedger, OwnedMemory, OwnedWaiting, OwnedWire, SharedGate,
+};
 use super::lingering::linger_of;
 use super::supervising::Supervisor;
 use super::threads::{FrontEnd, Worked, work};
@@ -15,7 +17,9 @@ use crate::waking::Notifiers;
 use crate::wires::{NotifiedWires, WireMaker, Wires, make_reader};
 use rad_addresses::LocalAddresses;
 use rad_console::{EndLine, ListeningLine, close_with};
-use rad_desk::{NoLedger, OpenFault, Proxy, Worker, WorkerReport, open};
+use rad_desk::{
+    NoLedger, NoneWaits, NothingRemembered, OpenFault, Outcomes, Proxy, Worker, WorkerReport, open,
+};
 use rad_realms::Config;
 use rad_tables::Moment;
 use std::alloc::Global;
@@ -58,25 +62,25 @@ where
         writer,
         descriptors,
     };
-    run_with(rt, machine, alloc, config, gate, NoLedger, streams)
+    run_with(rt, machine, alloc, config, gate, no_keepers(), streams)
 }
 
-/// Serves a configuration over UDP as [`run`] does, and keeps its responses in a ledger.
+/// Serves a configuration over UDP as [`run`] does, and hands its work over to these keepers.
 ///
-/// The ledger begins once all sockets are bound, and before the workers do. The front hands each response over to it
+/// The requests that wait come in before anything that is received. The ledger begins once all sockets are bound, and before the workers do. The front hands each response over to it
 /// before it sends it. At the end, also by a fault, it is told each request that is left.
 ///
 /// # Errors
 ///
 /// As [`run`]. The ledger has not begun if a socket can't be bound or set up, or if a wait for the reader can't be set
 /// up.
-pub fn run_with<R, A, G, L, I, O>(
+pub fn run_with<R, A, G, L, E, S, M, I, O>(
     rt: &R,
     machine: &A,
     alloc: Global,
     config: &Config,
     gate: &G,
-    ledger: L,
+    keepers: Keepers<L, E, S, M>,
     streams: Streams<I, O>,
 ) -> Result<EndLine, ServeFault>
 where
@@ -84,6 +88,9 @@ where
     A: LocalAddresses + PortSettings + Sync,
     G: SharedGate + SocketReports,
     L: OwnedLedger,
+    E: OwnedEntrance,
+    S: OwnedWaiting,
+    M: OwnedMemory,
     I: Read + Drop,
     O: Write + Drop,
     ensures { IfOk result (IsEndOf (length config.now.homes)) }
@@ -113,7 +120,7 @@ where
         config,
         wires,
         gate,
-        ledger,
+        keepers,
         Console::new(reader, output),
     )
 }
@@ -156,10 +163,10 @@ where
         writer,
         descriptors: Descriptors::none(),
     };
-    serve_with(rt, alloc, config, wires, gate, NoLedger, streams)
+    serve_with(rt, alloc, config, wires, gate, no_keepers(), streams)
 }
 
-/// Serves a configuration over these wires as [`serve`] does, and keeps its responses in a ledger.
+/// Serves a configuration over these wires as [`serve`] does, and hands its work over to these keepers.
 ///
 /// The ledger begins before the workers do. The front hands each response over to it before it sends it. At the end, also
 /// by a fault, it is told each request that is left. If the writer writes to a descriptor, the input is watched while a
@@ -168,13 +175,13 @@ where
 /// # Errors
 ///
 /// As [`serve`].
-pub fn serve_with<R, W, G, L, I, O>(
+pub fn serve_with<R, W, G, L, E, S, M, I, O>(
     rt: &R,
     alloc: Global,
     config: &Config,
     wires: NotifiedWires<'_, W>,
     gate: &G,
-    ledger: L,
+    keepers: Keepers<L, E, S, M>,
     streams: Streams<I, O>,
 ) -> Result<EndLine, ServeFault>
 where
@@ -182,6 +189,9 @@ where
     W: OwnedWire,
     G: SharedGate,
     L: OwnedLedger,
+    E: OwnedEntrance,
+    S: OwnedWaiting,
+    M: OwnedMemory,
     I: Read + Drop,
     O: Write + Drop,
     requires keeps { (wire : W) → IsSome (W.log wire) }
@@ -194,9 +204,19 @@ where
         config,
         wires,
         gate,
-        ledger,
+        keepers,
         Console::new(streams.reader, output),
     )
+}
+
+/// Keeps nothing, and has nothing of earlier runs.
+fn no_keepers() -> Keepers<NoLedger, Outcomes, NoneWaits, NothingRemembered> {
+    Keepers {
+        ledger: NoLedger,
+        entrance: Outcomes::new(),
+        waiting: NoneWaits,
+        memory: NothingRemembered,
+    }
 }
 
 /// Makes the output for this writer, with room for the answer to a command.
@@ -211,13 +231,13 @@ fn open_output<O: Write + Drop>(
 }
 
 /// Serves as `serve_with` does. What the output already holds is written once all workers have begun.
-fn serve_over<R, W, G, L, I, O>(
+fn serve_over<R, W, G, L, E, S, M, I, O>(
     rt: &R,
     alloc: Global,
     config: &Config,
     wires: NotifiedWires<'_, W>,
     gate: &G,
-    mut ledger: L,
+    mut keepers: Keepers<L, E, S, M>,
     mut console: Console<I, O>,
 ) -> Result<EndLine, ServeFault>
 where
@@ -225,6 +245,9 @@ where
     W: OwnedWire,
     G: SharedGate,
     L: OwnedLedger,
+    E: OwnedEntrance,
+    S: OwnedWaiting,
+    M: OwnedMemory,
     I: Read + Drop,
     O: Write + Drop,
     requires keeps { (wire : W) → IsSome (W.log wire) }
@@ -243,8 +266,8 @@ where
         proxy: &proxy,
         supervisor: &supervisor,
     };
-    ledger.begin();
-    let Worked { front, outcome } = work(service, wires, ledger, inlets, &mut console)?;
+    keepers.ledger.begin();
+    let Worked { front, outcome } = work(service, wires, keepers, inlets, &mut console)?;
     let FrontEnd {
         inlets,
         mut ledger,

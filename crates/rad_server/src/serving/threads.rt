@@ -3,12 +3,14 @@
 ghost use denote.Param.Send.{IsSend, IsSync};
 ghost use Rattle.std.specs.Prelude.{IsSome};
 
-use super::bounds::{Host, OwnedLedger, OwnedWire, SharedGate};
+use super::bounds::{
+    Host, Keepers, OwnedEntrance, OwnedLedger, OwnedMemory, OwnedWaiting, OwnedWire, SharedGate,
+};
 use super::working::Service;
 use crate::console::{Console, attend};
 use crate::faults::ServeFault;
 use crate::wires::Wires;
-use rad_desk::{Entrance, Inlet};
+use rad_desk::{Inlet, ResumedWire, Wire};
 use rad_tables::Moment;
 use std::io::{Read, Write};
 use std::thread::{self, JoinHandle, Scope};
@@ -31,15 +33,15 @@ pub(crate) struct Worked<L: Drop> {
 }
 
 /// Starts a thread for each wire, writes what the output holds once all have begun, and obeys the commands. The thread
-/// of the front has the ledger. All threads have ended when it returns.
+/// of the front has the keepers. All threads have ended when it returns.
 ///
 /// # Errors
 ///
 /// `Threads` if the thread of the front can't be started. No request was accepted then.
-pub(crate) fn work<R, W, G, L, I, O>(
+pub(crate) fn work<R, W, G, L, E, S, M, I, O>(
     service: Service<'_, R, G>,
     wires: Wires<W>,
-    ledger: L,
+    keepers: Keepers<L, E, S, M>,
     inlets: Vec<Inlet>,
     console: &mut Console<I, O>,
 ) -> Result<Worked<L>, ServeFault>
@@ -48,6 +50,9 @@ where
     W: OwnedWire,
     G: SharedGate,
     L: OwnedLedger,
+    E: OwnedEntrance,
+    S: OwnedWaiting,
+    M: OwnedMemory,
     I: Read + Drop,
     O: Write + Drop,
     requires keeps { (wire : W) → IsSome (W.log wire) }
@@ -56,10 +61,10 @@ where
         thread::scope_env(),
         service.rt,
         move |scope| -> Result<Worked<L>, ServeFault>
-            requires { IsSync R.row × IsSend W.row × IsSync G.row × IsSend L.row × ((wire : W) → IsSome (W.log wire)) }
+            requires { IsSync R.row × IsSend W.row × IsSync G.row × IsSend L.row × IsSend E.row × IsSend S.row × IsSend M.row × ((wire : W) → IsSome (W.log wire)) }
         {
             let Wires { front, lanes } = wires;
-            let front = start_front(scope, service, inlets, front, ledger)?;
+            let front = start_front(scope, service, inlets, front, keepers)?;
             let outcome = if start_lanes(scope, service, lanes) {
                 attend(service, console)
             } else {
@@ -72,18 +77,21 @@ where
     )
 }
 
-fn start_front<'s, E, R, W, G, L>(
-    scope: &Scope<'s, E>,
+fn start_front<'s, T, R, W, G, L, E, S, M>(
+    scope: &Scope<'s, T>,
     service: Service<'s, R, G>,
     inlets: Vec<Inlet>,
     wire: W,
-    ledger: L,
+    keepers: Keepers<L, E, S, M>,
 ) -> Result<JoinHandle<FrontEnd<L>>, ServeFault>
 where
     R: Host + 's,
     W: OwnedWire + 's,
     G: SharedGate + 's,
     L: OwnedLedger + 's,
+    E: OwnedEntrance + 's,
+    S: OwnedWaiting + 's,
+    M: OwnedMemory + 's,
     requires keeps { (wire : W) → IsSome (W.log wire) }
 {
     let worker = scope.spawn(
@@ -91,10 +99,20 @@ where
             requires { (wire : W) → IsSome (W.log wire) }
         {
             let mut inlets = inlets;
-            let mut wire = wire;
-            let mut ledger = ledger;
-            let mut entrance = Entrance::new();
-            service.work_in_front(inlets.as_mut_slice(), &mut wire, &mut ledger, &mut entrance);
+            let Keepers {
+                mut ledger,
+                mut entrance,
+                waiting,
+                memory,
+            } = keepers;
+            let mut wire = ResumedWire::new(wire, waiting);
+            service.work_in_front(
+                inlets.as_mut_slice(),
+                &mut wire,
+                &memory,
+                &mut ledger,
+                &mut entrance,
+            );
             FrontEnd {
                 inlets,
                 ledger,

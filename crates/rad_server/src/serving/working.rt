@@ -2,13 +2,13 @@
 
 ghost use Rattle.std.specs.Prelude.{IsSome};
 ghost use Rattle.rad_desk.specs.Calls.{Passes};
-ghost use Rattle.rad_desk.specs.Once.{UntilStopped, WorksInFront};
+ghost use Rattle.rad_desk.specs.Once.{UntilStopped, WorksInFront, terms_of};
 ghost use Rattle.rad_desk.specs.HandOver.{HandsOver};
 ghost use Rattle.rad_desk.specs.Working.{WorksForHome, WorksOnLane};
 
 use super::supervising::Supervisor;
 use rad_desk::{
-    Entrance, Gate, Inlet, Ledger, Proxy, Wire, Worker, front_worker_with, lane_worker,
+    Entrance, Gate, Inlet, Ledger, Memory, Proxy, Wire, Worker, front_worker_with, lane_worker,
 };
 use rad_realms::{Config, Home};
 use std::alloc::{AllocError, Global};
@@ -34,16 +34,17 @@ impl<R, G> Copy for Service<'_, R, G> {}
 impl<R: Wait, G: Gate> Service<'_, R, G> {
     /// Serves the clients until the worker is stopped, and hands each response over to the ledger. The list of the entrance
     /// tells what each datagram led to that passed the checks.
-    pub(crate) fn work_in_front<W: Wire, L: Ledger>(
+    pub(crate) fn work_in_front<W: Wire, M: Memory, L: Ledger, E: Entrance>(
         self,
         inlets: &mut [Inlet],
         wire: &mut W,
+        memory: &M,
         ledger: &mut L,
-        entrance: &mut Entrance,
+        entrance: &mut E,
     )
         requires { IsSome (W.log wire.old) }
-        ensures works { Passes (WorksInFront self.entry.config.now inlets.old inlets.new) (W.log wire.old) (W.log wire.new) }
-        ensures hands_over { Passes (UntilStopped self.entry.config.now (HandsOver self.entry.config.now inlets.old inlets.new entrance.old.outcomes entrance.new.outcomes (W.log wire.old) (L.kept ledger.old) (L.kept ledger.new))) (W.log wire.old) (W.log wire.new) }
+        ensures works { Passes (WorksInFront (terms_of self.entry.config.now (M.remembered memory.now)) inlets.old inlets.new) (W.log wire.old) (W.log wire.new) }
+        ensures hands_over { Passes (UntilStopped (terms_of self.entry.config.now (M.remembered memory.now)) (HandsOver (terms_of self.entry.config.now (M.remembered memory.now)) inlets.old inlets.new (E.outcomes entrance.old) (E.outcomes entrance.new) (W.log wire.old) (L.kept ledger.old) (L.kept ledger.new))) (W.log wire.old) (W.log wire.new) }
     {
         self.supervisor.begin(self.rt);
         let _ = front_worker_with(
@@ -51,6 +52,7 @@ impl<R: Wait, G: Gate> Service<'_, R, G> {
             self.alloc,
             self.proxy,
             self.config,
+            memory,
             inlets,
             wire,
             ledger,

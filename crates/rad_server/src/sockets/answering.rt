@@ -1,6 +1,6 @@
 //! The front's sockets as one: a datagram is answered from the socket that it came to.
 
-ghost use Rattle.rad_server.specs.internal.Wires.{FitsRoom};
+ghost use Rattle.rad_desk.specs.Traffic.{FitsRoom};
 
 use super::address_monitor::AddressMonitor;
 use super::socket_reports::SocketReports;

@@ -1,8 +1,8 @@
 //! A socket that is received from until it has no more datagrams.
 
 ghost use Rattle.std.specs.Prelude.{◌≡◌, [], IfOk, Some};
+ghost use Rattle.rad_desk.specs.Traffic.{FitsRoom};
 ghost use Rattle.rad_server.specs.internal.Taken.{SameTook, Sends, list_of, took_after};
-ghost use Rattle.rad_server.specs.internal.Wires.{FitsRoom};
 
 use super::datagram_socket::{DatagramSocket, Handed, Listed, SystemSocket};
 use super::endpoints::endpoint_of;

@@ -1,5 +1,6 @@
 //! Notifying a worker that sleeps that there is work for it.
 
+use super::apart::Apart;
 use super::ring_level::RingLevel;
 use mio::{Poll, Token, Waker};
 use rad_desk::Worker;
@@ -28,9 +29,14 @@ struct Shared {
     waker: Waker,
     /// Whether the worker is due: it slept when another one had work for it, and was not woken yet.
     is_due: AtomicBool,
-    /// Whether the worker is busy, so that those that it has work for become due. It alone writes and reads this.
+}
+
+/// What a worker alone writes and reads.
+#[derive(Drop)]
+struct Own {
+    /// Whether the worker is busy, so that those that it has work for become due.
     is_busy: AtomicBool,
-    /// Whether the worker is behind: a ring that it takes from is more than half full. It alone writes and reads this.
+    /// Whether the worker is behind: a ring that it takes from is more than half full.
     is_behind: AtomicBool,
 }
 
@@ -39,7 +45,10 @@ struct Shared {
 /// The worker calls [`Notifier::try_sleep`] before it sleeps, and [`Notifier::set_awake`] before it looks for work. In
 /// any other order a notification may be lost.
 #[derive(Drop)]
-pub struct Notifier(Arc<Shared>);
+pub struct Notifier {
+    shared: Arc<Shared>,
+    own: Arc<Apart<Own>>,
+}
 
 impl Notifier {
     /// Makes the notifier of a worker that is awake and that sleeps over this poll.
@@ -52,10 +61,15 @@ impl Notifier {
             state: AtomicU8::new(AWAKE),
             waker: Waker::new(poll.registry(), TOKEN)?,
             is_due: AtomicBool::new(false),
+        };
+        let own = Own {
             is_busy: AtomicBool::new(false),
             is_behind: AtomicBool::new(false),
         };
-        Ok(Notifier(Arc::new(alloc, shared)?))
+        Ok(Notifier {
+            shared: Arc::new(alloc, shared)?,
+            own: Arc::new(alloc, Apart::new(own))?,
+        })
     }
 
     /// Returns another notifier of the same worker.
@@ -64,56 +78,72 @@ impl Notifier {
     ///
     /// `AllocError` if memory is refused.
     pub fn share(&self) -> Result<Notifier, AllocError> {
-        Ok(Notifier(self.0.clone()?))
+        Ok(Notifier {
+            shared: self.shared.clone()?,
+            own: self.own.clone()?,
+        })
     }
 
     /// Notifies the worker that there is work for it. If the call of the waker fails, that only delays the worker,
     /// since no sleep is long.
     pub fn notify(&self) {
-        if self.0.state.swap(NOTIFIED, Ordering::SeqCst) == ASLEEP {
-            let _ = self.0.waker.wake();
+        if self.is_notified() {
+            return;
         }
+        if self.shared.state.swap(NOTIFIED, Ordering::SeqCst) == ASLEEP {
+            let _ = self.shared.waker.wake();
+        }
+    }
+
+    /// Returns whether the worker was notified since it last looked for work: it will look for this work too.
+    fn is_notified(&self) -> bool {
+        self.shared.state.load(Ordering::SeqCst) == NOTIFIED
     }
 
     /// Tells the worker that there is work for it. If it sleeps, it is not woken, but becomes due. Whoever calls this
     /// calls [`Notifier::notify_if_due`] soon.
     fn notify_later(&self) {
+        if self.is_notified() {
+            return;
+        }
         let found = self
-            .0
+            .shared
             .state
             .compare_exchange(AWAKE, NOTIFIED, Ordering::SeqCst, Ordering::SeqCst);
         if found == Err(ASLEEP) {
-            self.0.is_due.store(true, Ordering::SeqCst);
+            self.shared.is_due.store(true, Ordering::SeqCst);
         }
     }
 
     pub(crate) fn notify_if_due(&self) {
-        if self.0.is_due.load(Ordering::SeqCst) && self.0.is_due.swap(false, Ordering::SeqCst) {
+        let is_due = &self.shared.is_due;
+        if is_due.load(Ordering::SeqCst) && is_due.swap(false, Ordering::SeqCst) {
             self.notify();
         }
     }
 
     fn is_busy(&self) -> bool {
-        self.0.is_busy.load(Ordering::SeqCst)
+        self.own.value.is_busy.load(Ordering::SeqCst)
     }
 
     /// Sets whether the worker is busy. Once it is no longer busy, it wakes all that are due.
     pub(crate) fn set_busy(&self, is_busy: bool) {
-        self.0.is_busy.store(is_busy, Ordering::SeqCst);
+        self.own.value.is_busy.store(is_busy, Ordering::SeqCst);
     }
 
     fn set_behind(&self) {
-        self.0.is_behind.store(true, Ordering::SeqCst);
+        self.own.value.is_behind.store(true, Ordering::SeqCst);
     }
 
     /// Returns whether the worker was behind since the last call.
     pub(crate) fn was_behind(&self) -> bool {
-        self.0.is_behind.load(Ordering::SeqCst) && self.0.is_behind.swap(false, Ordering::SeqCst)
+        let is_behind = &self.own.value.is_behind;
+        is_behind.load(Ordering::SeqCst) && is_behind.swap(false, Ordering::SeqCst)
     }
 
     /// Marks the worker as asleep and returns `true`, unless it was notified since it was awake.
     pub(crate) fn try_sleep(&self) -> bool {
-        self.0
+        self.shared
             .state
             .compare_exchange(AWAKE, ASLEEP, Ordering::SeqCst, Ordering::SeqCst)
             .is_ok()
@@ -121,7 +151,9 @@ impl Notifier {
 
     /// Marks the worker as awake: it looks for work from now on, and more work has to be notified again.
     pub(crate) fn set_awake(&self) {
-        self.0.state.store(AWAKE, Ordering::SeqCst);
+        if self.shared.state.load(Ordering::SeqCst) != AWAKE {
+            self.shared.state.store(AWAKE, Ordering::SeqCst);
+        }
     }
 }
 

@@ -2,6 +2,7 @@
 
 ghost use Rattle.std.specs.Prelude.{◌<◌, ◌≤◌, ◌+◌, ◌*◌, ◌↔◌, IsTrue};
 
+use super::apart::{Apart, LINE};
 use std::alloc::{AllocError, Global};
 use std::sync::Arc;
 use std::sync::atomic::{AtomicU64, Ordering};
@@ -12,9 +13,9 @@ struct Shared {
     /// The number of responses that the ring has places for.
     places: u64,
     /// The number of responses that the lane's worker added.
-    answered: AtomicU64,
+    answered: Apart<AtomicU64>,
     /// The number of responses that the front took and sent.
-    taken: AtomicU64,
+    taken: Apart<AtomicU64>,
 }
 
 /// How full the ring of a lane is, by the reports of the lane's worker and of the front.
@@ -25,7 +26,36 @@ struct Shared {
 /// It looks before it sleeps, and the front notifies it after a report if the ring was full. In any other order a
 /// notification may be lost.
 #[derive(Drop)]
-pub(crate) struct RingLevel(Arc<Shared>);
+pub(crate) struct RingLevel {
+    shared: Arc<Shared>,
+    /// Room, since one worker may write what stands behind this while the other one reads it.
+    behind: [u64; LINE],
+}
+
+/// How full the ring is that a lane's worker adds to, as that worker knows.
+#[derive(Drop)]
+pub(crate) struct RingRoom {
+    level: RingLevel,
+    /// How many responses the front had taken when the worker last looked.
+    taken: u64,
+}
+
+impl RingRoom {
+    /// Makes it of a level, before the worker looked.
+    pub(crate) fn of(level: RingLevel) -> RingRoom {
+        RingRoom { level, taken: 0 }
+    }
+
+    /// Returns whether the ring has no free place. The lane's worker alone may ask that: a turn of it adds at most one
+    /// response. It looks at what the front took only if the ring would be full without what it took since.
+    pub(crate) fn is_full(&mut self) -> bool {
+        if !self.level.is_full_after(self.taken) {
+            return false;
+        }
+        self.taken = self.level.taken();
+        self.level.is_full_after(self.taken)
+    }
+}
 
 /// How full a ring was when the front took a response, and is now.
 #[derive(Clone, Copy)]
@@ -57,10 +87,13 @@ impl RingLevel {
     pub(crate) fn new(alloc: Global, places: u32) -> Result<RingLevel, AllocError> {
         let shared = Shared {
             places: u64::from(places),
-            answered: AtomicU64::new(0),
-            taken: AtomicU64::new(0),
+            answered: Apart::new(AtomicU64::new(0)),
+            taken: Apart::new(AtomicU64::new(0)),
         };
-        Ok(RingLevel(Arc::new(alloc, shared)?))
+        Ok(RingLevel {
+            shared: Arc::new(alloc, shared)?,
+            behind: [0; LINE],
+        })
     }
 
     /// Returns the level of the same ring.
@@ -69,33 +102,34 @@ impl RingLevel {
     ///
     /// `AllocError` if memory is refused.
     pub(crate) fn share(&self) -> Result<RingLevel, AllocError> {
-        Ok(RingLevel(self.0.clone()?))
+        Ok(RingLevel {
+            shared: self.shared.clone()?,
+            behind: [0; LINE],
+        })
     }
 
     /// Counts a response that the lane's worker added.
     pub(crate) fn count_answered(&self) {
-        self.0.answered.fetch_add(1, Ordering::SeqCst);
+        self.shared.answered.value.fetch_add(1, Ordering::SeqCst);
     }
 
     /// Counts a response that the front took and sent.
     pub(crate) fn count_taken(&self) -> RingReading {
-        let taken = self.0.taken.fetch_add(1, Ordering::SeqCst);
-        RingReading::from(self.in_use_after(taken), self.0.places)
+        let taken = self.shared.taken.value.fetch_add(1, Ordering::SeqCst);
+        RingReading::from(self.in_use_after(taken), self.shared.places)
     }
 
     pub(crate) fn taken(&self) -> u64 {
-        self.0.taken.load(Ordering::SeqCst)
+        self.shared.taken.value.load(Ordering::SeqCst)
     }
 
-    /// Returns whether the ring has no free place. The lane's worker alone may ask that: a turn of it adds at most one
-    /// response.
-    pub(crate) fn is_full(&self) -> bool {
-        self.in_use_after(self.taken()) >= self.0.places
+    fn is_full_after(&self, taken: u64) -> bool {
+        self.in_use_after(taken) >= self.shared.places
     }
 
     /// Returns how many places are in use once the front took `taken` responses.
     fn in_use_after(&self, taken: u64) -> u64 {
-        let answered = self.0.answered.load(Ordering::SeqCst);
+        let answered = self.shared.answered.value.load(Ordering::SeqCst);
         answered.saturating_sub(taken)
     }
 }

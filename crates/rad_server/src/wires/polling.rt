@@ -3,15 +3,15 @@
 ghost use Rattle.std.specs.Prelude.{◌≡◌, ◌++◌, [], Some, false, IfOk, IsTrue};
 ghost use Rattle.std.specs.List.{All};
 ghost use Rattle.std.proofs.Props.{props};
+ghost use Rattle.rad_desk.specs.Traffic.{FitsRoom};
 ghost use Rattle.rad_server.specs.internal.Accounts.{IsAccounted, came_if};
 ghost use Rattle.rad_server.specs.internal.Taken.{TookThese, list_of, taken};
-ghost use Rattle.rad_server.specs.internal.Wires.{FitsRoom};
 
 use crate::sending::{Departures, Reports};
 use crate::sockets::{
     ReadySocket, SystemSocket, receive_from, set_each_waiting, set_returned_waiting,
 };
-use crate::waking::{Neighbours, RingLevel, Sleeper};
+use crate::waking::{Neighbours, RingRoom, Sleeper};
 use mio::Poll;
 use rad_desk::{Delivery, Gate, Received, Traffic};
 use rad_realms::Endpoint;
@@ -28,7 +28,7 @@ pub(crate) struct Links {
     pub(crate) sleeper: Sleeper,
     pub(crate) neighbours: Neighbours,
     /// The ring that the worker adds responses to, if it is a lane's.
-    pub(crate) ring: Option<RingLevel>,
+    pub(crate) ring: Option<RingRoom>,
 }
 
 /// The sockets of a worker, and its sleep while none of them has a datagram.
@@ -61,7 +61,7 @@ pub(crate) struct PolledSockets<'a, G: Gate> {
     has_sent: bool,
     departures: Departures<'a, G>,
     /// The ring that the worker adds responses to, if it is a lane's.
-    ring: Option<RingLevel>,
+    ring: Option<RingRoom>,
     /// Whether the last receive was left out, since the worker was behind.
     has_skipped: bool,
     /// What the worker sent, with the index of the socket. Only clauses see it, and it takes no memory.
@@ -165,11 +165,10 @@ impl<'a, G: Gate> PolledSockets<'a, G> {
     }
 
     /// Returns whether the worker adds responses to a ring that is full.
-    fn is_held_back(&self) -> bool {
-        match &self.ring {
-            Some(ring) => ring.is_full(),
-            None => false,
-        }
+    fn is_held_back(&mut self) -> bool
+        ensures { self.new.sent ≡ self.old.sent }
+    {
+        is_full(&mut self.ring)
     }
 
     /// Counts a receive, and marks every socket for another try if there were too many receives without a sleep.
@@ -291,6 +290,13 @@ impl<'a, G: Gate> PolledSockets<'a, G> {
         let Endpoint { address, port } = to;
         self.sent.departed(socket, address, port, octets, delivery);
         delivery
+    }
+}
+
+fn is_full(ring: &mut Option<RingRoom>) -> bool {
+    match ring {
+        Some(ring) => ring.is_full(),
+        None => false,
     }
 }
 

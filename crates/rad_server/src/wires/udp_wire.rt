@@ -1,8 +1,8 @@
 //! The sockets of a worker as its wire.
 
 ghost use Rattle.std.specs.Prelude.{◌≡◌, [], None, Some, map};
+ghost use Rattle.rad_desk.specs.Traffic.{FitsRoom};
 ghost use Rattle.rad_server.specs.internal.Taken.{plain, taken};
-ghost use Rattle.rad_server.specs.internal.Wires.{FitsRoom};
 
 use super::heap_room::HeapRoom;
 use super::polling::PolledSockets;
@@ -16,6 +16,40 @@ use rand::Rng;
 use rand::rngs::StdRng;
 use std::alloc::Global;
 use std::time::{Clock, Instant};
+
+/// The Code of a Status-Server, which is its first octet (RFC 5997 section 3).
+const STATUS_SERVER: u8 = 12;
+
+/// Random octets that nobody saw. They are drawn anew once a Status-Server was sent, which has them as its Authenticator.
+#[derive(Drop)]
+struct Unseen {
+    random: StdRng,
+    octets: Option<[u8; 16]>,
+}
+
+impl Unseen {
+    fn get(&mut self) -> [u8; 16] {
+        match self.octets {
+            Some(octets) => octets,
+            None => self.draw(),
+        }
+    }
+
+    fn draw(&mut self) -> [u8; 16] {
+        let mut octets = [0; 16];
+        octets[..8].copy_from_slice(&self.random.next_u64().to_be_bytes());
+        octets[8..].copy_from_slice(&self.random.next_u64().to_be_bytes());
+        self.octets = Some(octets);
+        octets
+    }
+
+    /// Records that a datagram is sent.
+    fn sent(&mut self, datagram: &[u8]) {
+        if datagram.first() == Some(&STATUS_SERVER) {
+            self.octets = None;
+        }
+    }
+}
 
 /// The sockets of a worker, with its clock and its random octets.
 ///
@@ -34,7 +68,7 @@ use std::time::{Clock, Instant};
 #[derive(Drop)]
 pub(crate) struct UdpWire<'a, R, G: Gate, A> {
     clock: TurnClock<'a, R>,
-    random: StdRng,
+    unseen: Unseen,
     polled: PolledSockets<'a, G>,
     /// Present if the worker knows all sockets as 0.
     answering: Option<Answering<'a, R, G, A>>,
@@ -57,11 +91,15 @@ impl<'a, R, G: Gate, A> UdpWire<'a, R, G, A> {
         requires { polled.sent.passed ≡ [] }
     {
         let clock = TurnClock::new(clock, start);
+        let unseen = Unseen {
+            random,
+            octets: None,
+        };
         let heap = HeapRoom::new(alloc);
         let traffic = Traffic::new();
         UdpWire {
             clock,
-            random,
+            unseen,
             polled,
             answering,
             heap,
@@ -145,9 +183,7 @@ impl<R: Clock, G: Gate + SocketReports, A: LocalAddresses> Wire for UdpWire<'_, 
     }
 
     fn random(&mut self) -> [u8; 16] {
-        let mut octets = [0; 16];
-        octets[..8].copy_from_slice(&self.random.next_u64().to_be_bytes());
-        octets[8..].copy_from_slice(&self.random.next_u64().to_be_bytes());
+        let octets = self.unseen.get();
         self.traffic.drew(&octets);
         octets
     }
@@ -171,6 +207,7 @@ impl<R: Clock, G: Gate + SocketReports, A: LocalAddresses> Wire for UdpWire<'_, 
     fn send(&mut self, socket: u16, address: [u8; 4], port: u16, octets: &[u8]) -> Delivery {
         let to = Endpoint { address, port };
         let from = self.index_of(socket, to);
+        self.unseen.sent(octets);
         self.polled.set_moment(self.clock.now().get());
         let delivery = self.polled.send(from, to, octets);
         self.traffic

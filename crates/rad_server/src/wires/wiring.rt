@@ -8,7 +8,7 @@ use crate::sending::Reports;
 use crate::sockets::{
     AddressMonitor, Answering, BoundSockets, ClientSockets, SocketReports, fault_at, lane_fault,
 };
-use crate::waking::{Neighbours, Notifiers, RingLevel, Sleeper};
+use crate::waking::{Neighbours, Notifiers, RingLevel, RingRoom, Sleeper};
 use rad_addresses::{KnownAddresses, Origins};
 use rad_desk::{Gate, Worker};
 use rad_realms::{Client, Config, Home};
@@ -248,7 +248,7 @@ fn links_of(
     let neighbours = Neighbours::new(sleeper.notifier()?, notifiers.others_of(alloc, worker)?);
     let ring = match worker {
         Worker::Front => None,
-        Worker::Lane(lane) => notifiers.share_ring(usize::from(lane))?,
+        Worker::Lane(lane) => notifiers.share_ring(usize::from(lane))?.map(RingRoom::of),
     };
     Ok(Links {
         sleeper,

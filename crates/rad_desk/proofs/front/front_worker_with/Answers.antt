@@ -1,8 +1,7 @@
 use Rattle.std.proofs.Common.{◌≡◌, ◌+◌, ◌*◌, ℕ, Bool, true, false, List, Option, refl, sym, subst, ap, ◌∙◌, rules}
 use Rattle.rad_desk.specs.Traffic.{Event}
-use Rattle.rad_realms.specs.Configuration.{Configuration}
 use Rattle.rad_desk.specs.Calls.{Passes, AreAtMost}
-use Rattle.rad_desk.specs.Once.{UntilStopped, DoesOrStops}
+use Rattle.rad_desk.specs.Once.{Terms, UntilStopped, DoesOrStops}
 use Rattle.rad_desk.proofs.CallsJoined.{passes_none, most_none, most_turn}
 use Rattle.rad_desk.proofs.Kept.{passes_left}
 use Rattle.rad_desk.proofs.HandOver.{over_none, over_join, over_until, until_whole, works_handing}
@@ -18,11 +17,11 @@ most_made {turn = turn} {inlets = inlets} old mid new same before made =
     most_turn turn (1 + inlets) old mid new before (subst (λ n. Passes (AreAtMost 1 (1 + n)) mid new) same made)
 
 -- where the turn was not stopped, the front goes on
-goes_on : (config : Configuration) (Does : List Event → Type 0) (is : Bool) (old new : Option (List Event)) → is ≡ true → Passes (DoesOrStops is config Does) old new → Passes Does old new
-goes_on config Does is old new holds = subst (λ b. Passes (DoesOrStops b config Does) old new) holds
+goes_on : (terms : Terms) (Does : List Event → Type 0) (is : Bool) (old new : Option (List Event)) → is ≡ true → Passes (DoesOrStops is terms Does) old new → Passes Does old new
+goes_on terms Does is old new holds = subst (λ b. Passes (DoesOrStops b terms Does) old new) holds
 
-is_stopped : (config : Configuration) (Does : List Event → Type 0) (is : Bool) (old new : Option (List Event)) → is ≡ false → Passes (DoesOrStops is config Does) old new → Passes (UntilStopped config Does) old new
-is_stopped config Does is old new fails = subst (λ b. Passes (DoesOrStops b config Does) old new) fails
+is_stopped : (terms : Terms) (Does : List Event → Type 0) (is : Bool) (old new : Option (List Event)) → is ≡ false → Passes (DoesOrStops is terms Does) old new → Passes (UntilStopped terms Does) old new
+is_stopped terms Does is old new fails = subst (λ b. Passes (DoesOrStops b terms Does) old new) fails
 
 pub loop-turn-init : goal.loop-turn-init
 loop-turn-init g c = record {

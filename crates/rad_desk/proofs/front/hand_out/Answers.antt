@@ -6,16 +6,16 @@ use Rattle.rad_desk.proofs.HandOver.{over_none, over_join, over_by_handing}
 use Rattle.rad_desk.proofs.front.hand_out.Goals as goal
 
 pub loop-place-init : goal.loop-place-init
-loop-place-init g c = record { hands_over = λ config came. over_none config _ came _ _ _ refl; sends = passes_none _ _ _ (most_none 0 0) refl; keeps = keeps_all _ }
+loop-place-init g c = record { hands_over = λ terms came. over_none terms _ came _ _ _ refl; sends = passes_none _ _ _ (most_none 0 0) refl; keeps = keeps_all _ }
 
 pub loop-place-preserved : goal.loop-place-preserved
 loop-place-preserved g c =
     let before = c.loop-place.invariant in
     let within : c.loop-place.place < length c.loop-place.inlets = omega (arith, c.loop-place-test.true, c.loop-place.auto.inlets) in
     record {
-      hands_over = λ config came.
-          over_join config _ _ _ came came came _ _ _ _ _ _ (before.hands_over config came)
-          (over_by_handing config _ _ _ _ within came _ _ _ _ c.take.ensures.taken c.take.ensures.hands);
+      hands_over = λ terms came.
+          over_join terms _ _ _ came came came _ _ _ _ _ _ (before.hands_over terms came)
+          (over_by_handing terms _ _ _ _ within came _ _ _ _ c.take.ensures.taken c.take.ensures.hands);
       sends = most_join 0 c.loop-place.place 0 1 0 (c.loop-place.place + 1) (omega arith) (omega arith) _ _ _ before.sends (most_handed _ _ _ _ c.take.ensures.hands);
       keeps = keeps_then _ _ _ before.keeps c.take.ensures.keeps;
     }

@@ -1,4 +1,4 @@
-use Rattle.std.proofs.Common.{refl, ◌∙◌}
+use Rattle.std.proofs.Common.{refl}
 use Rattle.rad_desk.proofs.FrontWork.{hands_none, hands_one}
 use Rattle.rad_desk.proofs.HandOver.{keeps_none, keeps_one}
 use Rattle.rad_desk.proofs.front.take.Goals as goal

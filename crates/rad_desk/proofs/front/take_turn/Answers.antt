@@ -1,23 +1,22 @@
 use Rattle.std.proofs.Common.{◌≡◌, ◌+◌, Bool, true, false, List, Option, length, arith, subst}
-use Rattle.rad_realms.specs.Configuration.{Configuration}
 use Rattle.rad_desk.specs.Traffic.{Event}
 use Rattle.rad_desk.specs.Calls.{Passes}
 use Rattle.rad_desk.specs.Handling.{Outcome}
-use Rattle.rad_desk.specs.Once.{TakesIn, TakesInOnce, IsLeftUntaken}
+use Rattle.rad_desk.specs.Once.{Terms, terms_of, TakesIn, TakesInOnce, IsLeftUntaken}
 use Rattle.rad_desk.proofs.CallsJoined.{passes_widen, most_join, most_more}
 use Rattle.rad_desk.proofs.FrontWork.{most_taken}
 use Rattle.rad_desk.proofs.HandOver.{over_join, over_by_taking, over_stopped, does_or_stops, stops_here}
 use Rattle.rad_desk.proofs.front.take_turn.Goals as goal
 
 -- where something was taken in, the front goes on; else it is stopped
-goes_on : (config : Configuration) (before after : List Outcome) (is : Bool) (old new : Option (List Event)) → is ≡ true → Passes (TakesInOnce is config before after) old new → Passes (TakesIn config before after) old new
-goes_on config before after is old new holds = subst (λ b. Passes (TakesInOnce b config before after) old new) holds
+goes_on : (terms : Terms) (before after : List Outcome) (is : Bool) (old new : Option (List Event)) → is ≡ true → Passes (TakesInOnce is terms before after) old new → Passes (TakesIn terms before after) old new
+goes_on terms before after is old new holds = subst (λ b. Passes (TakesInOnce b terms before after) old new) holds
 
-stops : (config : Configuration) (before after : List Outcome) (is : Bool) (old new : Option (List Event)) → is ≡ false → Passes (TakesInOnce is config before after) old new → Passes (TakesInOnce false config before after) old new
-stops config before after is old new fails = subst (λ b. Passes (TakesInOnce b config before after) old new) fails
+stops : (terms : Terms) (before after : List Outcome) (is : Bool) (old new : Option (List Event)) → is ≡ false → Passes (TakesInOnce is terms before after) old new → Passes (TakesInOnce false terms before after) old new
+stops terms before after is old new fails = subst (λ b. Passes (TakesInOnce b terms before after) old new) fails
 
-left : (config : Configuration) (before after : List Outcome) (old new : Option (List Event)) → Passes (TakesInOnce false config before after) old new → Passes (IsLeftUntaken config) old new
-left config before after = passes_widen (TakesInOnce false config before after) (IsLeftUntaken config) (λ events stopped. stopped.0)
+left : (terms : Terms) (before after : List Outcome) (old new : Option (List Event)) → Passes (TakesInOnce false terms before after) old new → Passes (IsLeftUntaken terms) old new
+left terms before after = passes_widen (TakesInOnce false terms before after) (IsLeftUntaken terms) (λ events stopped. stopped.0)
 
 pub returns-then-take_in-clause-hands_over : goal.returns-then-take_in-clause-hands_over
 returns-then-take_in-clause-hands_over g c =
@@ -27,8 +26,8 @@ returns-then-take_in-clause-hands_over g c =
 
 pub returns-else-take_in-clause-hands_over : goal.returns-else-take_in-clause-hands_over
 returns-else-take_in-clause-hands_over g c =
-    let stopped = stops _ _ _ _ _ _ c.if-take_in.false c.take_in.ensures.takes_in in
-    stops_here c.args.config.now _ _ _ _ c.if-take_in.false (over_stopped _ _ _ _ _ _ stopped.right.1 c.take_in.ensures.kept _ _ (left _ _ _ _ _ stopped))
+    let stopped = stops (terms_of c.args.config.now (g.M.Memory.remembered c.args.memory.now)) _ _ _ _ _ c.if-take_in.false c.take_in.ensures.takes_in in
+    stops_here (terms_of c.args.config.now (g.M.Memory.remembered c.args.memory.now)) _ _ _ _ c.if-take_in.false (over_stopped _ _ _ _ _ _ stopped.right.1 c.take_in.ensures.kept _ _ (left (terms_of c.args.config.now (g.M.Memory.remembered c.args.memory.now)) _ _ _ _ stopped))
 
 pub returns-then-take_in-clause-made : goal.returns-then-take_in-clause-made
 returns-then-take_in-clause-made g c =

@@ -1,4 +1,4 @@
-use Rattle.std.proofs.Common.{◌≡◌, ◌≤◌, ◌+◌, ℕ, Bool, true, false, Option, List, refl, sym, subst, ap, ◌∙◌, rules, arith}
+use Rattle.std.proofs.Common.{◌≡◌, ◌+◌, ℕ, Bool, true, false, Option, List, refl, sym, subst, ap, ◌∙◌, rules, arith}
 use Rattle.rad_realms.specs.Configuration.{HomeEntry}
 use Rattle.rad_desk.specs.Traffic.{Event}
 use Rattle.rad_desk.specs.Calls.{Passes, AreAtMost}

@@ -1,5 +1,5 @@
-use Rattle.std.proofs.Common.{◌-◌, [], ◌∷◌, ◌∙◌, take, drop, refl, ap}
-use Rattle.rad_desk.specs.Leaving.{left_with, left_of_queue, queued_left}
+use Rattle.std.proofs.Common.{◌-◌, [], ◌∷◌, ◌∙◌, take, drop, ap}
+use Rattle.rad_desk.specs.Leaving.{left_with, left_of_queue}
 use Rattle.rad_desk.proofs.LeftTold.{left_over, queue_onward, queue_drops, queue_empty, queue_dropped, queue_done, queue_rest, queue_start}
 use Rattle.rad_desk.proofs.leaving.tell_queued.Goals as goal
 

@@ -1,13 +1,11 @@
 -- It takes no octets, and the list is the earlier one with the response behind it.
 use mathlib.Core.Path.{refl}
 use mathlib.Core.List.{[], ◌∷◌, ◌++◌}
-use seplogic.Ra.Ura.{Ura}
 use mir.Syntax.{Args, Dict, Fn, a_type, dcons, dnil, named}
 use mir.Val.{Val, vptr, vstruct, vnil}
 use mir.MapTy.{inst_fn}
-use base.Logic.{SProp, via, fst∗}
+use base.Logic.{via, fst∗}
 use prog.Wp.{WpFn, Tables}
-use types.Logic.{Logic}
 use contract.Running.{tables, tables_of}
 use sound.WpLaws.{WpFn-mono}
 use types.Kit.{‵, raw, ◌$◌, ◌∵◌, !, qed, move, suffices, done}

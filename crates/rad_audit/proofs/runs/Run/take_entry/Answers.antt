@@ -1,0 +1,15 @@
+use Rattle.std.proofs.Common.{rules, sym, ◌∙◌}
+use Rattle.std.proofs.lemmas.Result.{on_ok_weaker}
+use Rattle.rad_audit.specs.Lanes.{Makes}
+use Rattle.rad_audit.specs.declared.judging.Content.TheVariants as content
+use Rattle.rad_audit.proofs.Stands.{goes_by, goes_nowhere, goes_to}
+use Rattle.rad_audit.proofs.runs.Run.take_entry.Goals as goal
+
+pub returns-in_default : goal.returns-in_default
+returns-in_default c = λ config. goes_nowhere c.args.judged.now.entry.about.run c.args.judged.now.entry.about.lane c.args.judged.now.entry.about.home.now (λ m. Makes config m (content.Entry c.args.judged.now)) c.args.self.now.lanes.items (sym c.place_of.ensures ∙ c.in_default.is)
+
+pub returns-then-ne : goal.returns-then-ne
+returns-then-ne c = λ config. goes_by c.args.judged.now.entry.about.run c.args.judged.now.entry.about.lane c.args.judged.now.entry.about.home.now (λ m. Makes config m (content.Entry c.args.judged.now)) c.args.self.now.lanes.items c.in-Some.place c.index_mut-lane.result.now (sym c.place_of.ensures ∙ c.in-Some.is) (search rules) (search rules)
+
+pub returns : goal.returns
+returns c = on_ok_weaker c.take_entry.result (λ makes config. goes_to c.args.judged.now.entry.about.run c.args.judged.now.entry.about.lane c.args.judged.now.entry.about.home.now (λ m. Makes config m (content.Entry c.args.judged.now)) c.args.self.now.lanes.items c.in-Some.place c.index_mut-lane.result.now c.take_entry.new.self (sym c.place_of.ensures ∙ c.in-Some.is) (search rules) (search rules) c.take_entry.ensures.number makes) c.take_entry.ensures.makes

@@ -1,0 +1,9 @@
+pub mod Accounted
+pub mod Earlier
+pub mod Faults
+pub mod LogLines
+pub mod Merging
+pub mod Offers
+pub mod Parcels
+pub mod Settled
+pub mod Waiting

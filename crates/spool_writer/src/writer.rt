@@ -1,0 +1,559 @@
+//! The thread that writes a spool.
+
+use crate::appender::Appender;
+use crate::disk::SpoolDisk;
+use crate::fault::{SpoolFault, append_fault, device_fault, system_number};
+use crate::open_table::{OpenTable, Place};
+use crate::opening::SpoolPlace;
+use crate::outlet::SpoolOutlet;
+use crate::parcel::Parcel;
+use crate::segments::{SegmentState, find_mut, is_over, moment_of, total};
+use crate::state::{RoundEnd, SpoolState};
+use crate::waiting::{Waiting, put_entries};
+use crate::wall_clock::time_since_1970;
+use rad_tables::Key;
+use spool_files::{
+    AppendError, Begun, Came, FileCalls, Head, MOST_OCTETS, VERSION, put_entry, read_segment,
+    recover,
+};
+use std::alloc::{AllocError, Global};
+use std::marker::Sync;
+use std::sync::{Arc, Wait};
+use std::thread::{self, Threads};
+use std::time::{Clock, Duration, Instant};
+
+/// How many milliseconds pass from one batch to the next.
+const PAUSE: u64 = 50;
+
+/// How many milliseconds after a fault the thread tries again.
+const AGAIN: u64 = 1000;
+
+/// How many octets a request has at most.
+const GREATEST_REQUEST: usize = 4096;
+
+/// How many octets of entries a batch has, about, at most.
+const BATCH: usize = 1 << 22;
+
+/// What the thread that writes a spool has, before it is started.
+#[derive(Drop)]
+pub struct SpoolWriter {
+    pub(crate) place: SpoolPlace,
+    /// The run.
+    pub(crate) run: u64,
+    /// For how many milliseconds an answer is remembered.
+    pub(crate) span: u64,
+    pub(crate) outlet: SpoolOutlet,
+    pub(crate) table: OpenTable,
+    /// The segments, the oldest first.
+    pub(crate) segments: Vec<SegmentState>,
+    /// The number of the next segment.
+    pub(crate) next: u64,
+    /// Whether segments may be removed: nothing is wrong with any.
+    pub(crate) may_remove: bool,
+    pub(crate) state: Arc<SpoolState>,
+}
+
+/// A writer at work.
+#[derive(Drop)]
+pub(crate) struct Session<'a, R, D: SpoolDisk + Drop> {
+    rt: &'a R,
+    alloc: Global,
+    disk: D,
+    pub(crate) its: SpoolWriter,
+    /// The newest segment, if it takes more batches.
+    segment: Option<Appender<D::Calls>>,
+    /// The entries that are in no batch that is on disk, in their order.
+    waiting: Vec<Waiting>,
+    /// Where the body of a batch is made.
+    body: Vec<u8>,
+    /// Whether the last round failed.
+    is_failing: bool,
+}
+
+/// Puts a request once more. No segment has a longer one.
+fn put_again(body: &mut Vec<u8>, came: Came, text: &[u8]) -> Result<(), SpoolFault> {
+    if text.len() > GREATEST_REQUEST {
+        return Err(SpoolFault::Read(0));
+    }
+    match put_entry(body, &Head::Came(came), text) {
+        Ok(()) => Ok(()),
+        Err(AllocError) => Err(SpoolFault::Memory),
+    }
+}
+
+/// Starts the thread that writes a spool to this disk, and returns whether that succeeded. No thread joins it: it ends with the program.
+pub fn start_spool_writer<R, C, D>(rt: &R, alloc: Global, writer: SpoolWriter, disk: D) -> bool
+where
+    R: Clock + Threads + Wait + Sync + Copy + Send + 'static,
+    C: FileCalls + Drop + Send + 'static,
+    D: SpoolDisk<Calls = C> + Drop + Send + 'static,
+{
+    let own = *rt;
+    writer.state.start();
+    thread::spawn(rt, move || writer.write_all(&own, alloc, disk)).is_ok()
+}
+
+impl SpoolWriter {
+    /// Writes entries as they come, until the spool is ended and all is written. The thread does nothing else.
+    pub fn write_all<R: Clock + Wait, D: SpoolDisk + Drop>(self, rt: &R, alloc: Global, disk: D) {
+        let mut session = Session::new(rt, alloc, self, disk);
+        for _ in rt.forever() {
+            let began = Instant::now(rt).ok();
+            let is_last = session.its.state.begin_round();
+            session.do_round();
+            if is_last && !session.is_failing {
+                session.its.state.finish();
+                return;
+            }
+            let pause = session.pause(began);
+            session.its.state.sleep(rt, pause);
+        }
+    }
+}
+
+impl<'a, R, D: SpoolDisk + Drop> Session<'a, R, D> {
+    /// Makes a writer that has written nothing yet.
+    pub(crate) fn new(rt: &'a R, alloc: Global, its: SpoolWriter, disk: D) -> Session<'a, R, D> {
+        Session {
+            rt,
+            alloc,
+            disk,
+            its,
+            segment: None,
+            waiting: Vec::new(alloc),
+            body: Vec::new(alloc),
+            is_failing: false,
+        }
+    }
+}
+
+impl<R: Clock, D: SpoolDisk + Drop> Session<'_, R, D> {
+    /// Returns how many milliseconds to sleep after a round that began at this moment.
+    fn pause(&self, began: Option<Instant>) -> u64 {
+        if self.is_failing {
+            return AGAIN;
+        }
+        let Some(Ok(passed)) = began.map(|began| began.elapsed(self.rt)) else {
+            return PAUSE;
+        };
+        let left = Duration::from_millis(PAUSE).saturating_sub(passed);
+        u64::try_from(left.as_millis()).unwrap_or(PAUSE).max(1)
+    }
+
+    /// Takes what came, writes it, and removes what no longer counts. Reports whether that failed.
+    pub(crate) fn do_round(&mut self) {
+        match self.write_round() {
+            Ok(()) => self.succeed(),
+            Err(fault) => self.fail(fault),
+        }
+        let its = &self.its;
+        its.state.end_round(RoundEnd {
+            open: its.table.len() as u64,
+            unsynced: its.table.unsynced(),
+            waiting: self.waiting.len() as u64,
+            oldest: its.table.oldest(),
+            octets: total(&its.segments),
+        });
+    }
+
+    /// Reports a fault, if the round before did not fail.
+    fn fail(&mut self, fault: SpoolFault) {
+        self.its.state.count_fault();
+        if !self.is_failing {
+            self.is_failing = true;
+            self.its.state.fail(fault);
+        }
+    }
+
+    /// Reports that entries are written again, if the round before failed.
+    fn succeed(&mut self) {
+        if self.is_failing {
+            self.is_failing = false;
+            self.its.state.goes_on();
+        }
+    }
+
+    /// Removal goes on while the disk is full, since it makes room.
+    fn write_round(&mut self) -> Result<(), SpoolFault> {
+        let taken = self.take_all();
+        let written = self.write_all_waiting();
+        let removed = self.remove_old();
+        taken?;
+        written?;
+        removed
+    }
+
+    /// Writes all that waits. After a fault it begins a segment, even if nothing waits.
+    fn write_all_waiting(&mut self) -> Result<(), SpoolFault> {
+        if self.is_failing {
+            self.let_go();
+            self.check_limit(0)?;
+            if self.segment.is_none() {
+                self.begin_segment()?;
+            }
+        }
+        self.write_waiting()
+    }
+
+    /// Returns the time, in milliseconds since 1970.
+    fn now(&self) -> u64 {
+        time_since_1970(self.rt).unwrap_or(0)
+    }
+}
+
+impl<R: Clock, D: SpoolDisk + Drop> Session<'_, R, D> {
+    /// Takes all that is in the rings.
+    fn take_all(&mut self) -> Result<(), SpoolFault> {
+        let mut outcome = Ok(());
+        for _ in 0..self.its.outlet.look() {
+            let Some(parcel) = self.its.outlet.take() else {
+                break;
+            };
+            if self.enter(parcel).is_err() {
+                outcome = Err(SpoolFault::Memory);
+            }
+        }
+        outcome
+    }
+
+    /// Notes what a parcel opens or closes. It is to be written, unless the spool has it, or needs it no more.
+    fn enter(&mut self, parcel: Parcel) -> Result<(), AllocError> {
+        let mut closes = 0;
+        let is_written = match &parcel.head {
+            Head::Came(came) => self.open(came, parcel.octets.as_slice().len())?,
+            Head::Answered(answered) => {
+                let key = answered.key;
+                closes = self.close(&key);
+                closes != 0 || !self.is_failing
+            }
+            _ => false,
+        };
+        if is_written {
+            self.waiting.push(Waiting { parcel, closes })?;
+        }
+        Ok(())
+    }
+
+    /// Notes that a request is open, and returns whether it was not: then it is to be written.
+    fn open(&mut self, came: &Came, octets: usize) -> Result<bool, AllocError> {
+        if self.its.table.find(&came.key).is_some() {
+            return Ok(false);
+        }
+        let place = Place {
+            arrival: came.arrival,
+            moment: came.moment,
+            segment: 0,
+            octets: octets as u64,
+        };
+        self.its.table.open(came.key, place)?;
+        Ok(true)
+    }
+
+    /// Notes that a request is answered, and returns the number of the segment in which it stands; 0 if it is on no disk.
+    fn close(&mut self, key: &Key) -> u64 {
+        match self.its.table.close(key) {
+            Some(place) => place.segment,
+            None => 0,
+        }
+    }
+
+    /// Lets go of what need not be written: of requests that are no longer open, and of answers to requests that are on no
+    /// disk.
+    fn let_go(&mut self) {
+        let table = &self.its.table;
+        self.waiting.retain(|waiting| is_needed(table, waiting));
+    }
+}
+
+/// Returns whether what waits is to be written though the disk failed.
+fn is_needed(table: &OpenTable, waiting: &Waiting) -> bool {
+    match &waiting.parcel.head {
+        Head::Came(came) => is_open(table, came),
+        _ => waiting.closes != 0,
+    }
+}
+
+/// Returns whether it is this request that is open by its key.
+fn is_open(table: &OpenTable, came: &Came) -> bool {
+    match table.find(&came.key) {
+        Some(place) => place.arrival == came.arrival,
+        None => false,
+    }
+}
+
+impl<R: Clock, D: SpoolDisk + Drop> Session<'_, R, D> {
+    /// Writes all that waits, in batches.
+    fn write_waiting(&mut self) -> Result<(), SpoolFault> {
+        for _ in 0..self.waiting.len() {
+            if self.waiting.is_empty() {
+                break;
+            }
+            self.write_some()?;
+        }
+        Ok(())
+    }
+
+    /// Writes a batch of what waits.
+    fn write_some(&mut self) -> Result<(), SpoolFault> {
+        self.body.clear();
+        let Ok(count) = put_entries(&mut self.body, &self.waiting, BATCH) else {
+            return Err(SpoolFault::Memory);
+        };
+        self.append_body()?;
+        self.settle(count);
+        let count = count.min(self.waiting.len());
+        self.waiting.drain(..count);
+        Ok(())
+    }
+
+    /// Notes that the first of what waits are in a batch that is on disk.
+    fn settle(&mut self, count: usize) {
+        let number = self.newest_number();
+        let segments = &mut self.its.segments;
+        for waiting in self.waiting.iter().take(count) {
+            let mut opened = 0;
+            if let Head::Came(came) = &waiting.parcel.head
+                && is_open(&self.its.table, came)
+            {
+                self.its.table.move_to(&came.key, number);
+                opened = 1;
+            }
+            if let Some(segment) = find_mut(segments.as_mut_slice(), number) {
+                segment.open = segment.open.saturating_add(opened);
+                segment.see(moment_of(&waiting.parcel.head).unwrap_or(0));
+            }
+            if let Some(segment) = find_mut(segments.as_mut_slice(), waiting.closes) {
+                segment.open = segment.open.saturating_sub(1);
+            }
+        }
+        self.its.state.count_written(count as u64);
+    }
+
+    /// Returns the number of the newest segment, or 0.
+    fn newest_number(&self) -> u64 {
+        match self.its.segments.last() {
+            Some(last) => last.number,
+            None => 0,
+        }
+    }
+}
+
+impl<R: Clock, D: SpoolDisk + Drop> Session<'_, R, D> {
+    /// Appends the body as a batch: to the newest segment, or, if that has no room for it, to a new one.
+    fn append_body(&mut self) -> Result<(), SpoolFault> {
+        if self.body.is_empty() {
+            return Ok(());
+        }
+        self.check_limit(self.body.len() as u64)?;
+        if self.try_append()? {
+            return Ok(());
+        }
+        self.begin_segment()?;
+        if self.try_append()? {
+            Ok(())
+        } else {
+            Err(SpoolFault::Limit)
+        }
+    }
+
+    /// Fails if the spool would have more octets on disk than it may, with so many more.
+    fn check_limit(&self, more: u64) -> Result<(), SpoolFault> {
+        if total(&self.its.segments).saturating_add(more) > self.its.place.limit {
+            Err(SpoolFault::Limit)
+        } else {
+            Ok(())
+        }
+    }
+
+    /// Appends the body as a batch to the newest segment, if that has room for it, and returns whether it had.
+    fn try_append(&mut self) -> Result<bool, SpoolFault> {
+        let Some(segment) = self.segment.take() else {
+            return Ok(false);
+        };
+        match segment.append(self.alloc, &self.body) {
+            Ok(segment) => {
+                self.keep_segment(segment);
+                Ok(true)
+            }
+            Err(AppendError::Full) => Ok(false),
+            Err(error) => {
+                self.remove_empty();
+                Err(append_fault(error))
+            }
+        }
+    }
+
+    fn keep_segment(&mut self, segment: Appender<D::Calls>) {
+        let octets = segment.octets();
+        self.segment = Some(segment);
+        if let Some(last) = self.its.segments.as_mut_slice().last_mut() {
+            last.octets = octets;
+        }
+    }
+
+    /// Begins the next segment, whose first batch tells its number and the run.
+    fn begin_segment(&mut self) -> Result<(), SpoolFault> {
+        let number = self.its.next;
+        self.its.next = number.saturating_add(1);
+        let folder = self.its.place.folder.as_str();
+        let file = match self.disk.make(self.alloc, folder, number) {
+            Ok(file) => file,
+            Err(error) => {
+                let _ = self.disk.remove(self.alloc, folder, number);
+                return Err(SpoolFault::Create(system_number(&error)));
+            }
+        };
+        if self.its.segments.push(SegmentState::made(number)).is_err() {
+            return Err(SpoolFault::Memory);
+        }
+        let begun = match Appender::begin(file) {
+            Ok(segment) => self.append_beginning(segment, number),
+            Err(fault) => Err(device_fault(fault)),
+        };
+        match begun {
+            Ok(segment) => {
+                self.keep_segment(segment);
+                Ok(())
+            }
+            Err(fault) => {
+                self.remove_empty();
+                Err(fault)
+            }
+        }
+    }
+
+    fn append_beginning(
+        &self,
+        segment: Appender<D::Calls>,
+        number: u64,
+    ) -> Result<Appender<D::Calls>, SpoolFault> {
+        let head = Head::Begun(Begun {
+            version: VERSION,
+            run: self.its.run,
+            number,
+        });
+        let mut body = Vec::new(self.alloc);
+        if put_entry(&mut body, &head, &[]).is_err() {
+            return Err(SpoolFault::Memory);
+        }
+        segment.append(self.alloc, &body).map_err(append_fault)
+    }
+
+    /// Removes the newest segment if no entry about a request is in it, since nothing can be written to it.
+    fn remove_empty(&mut self) {
+        let Some(last) = self.its.segments.last() else {
+            return;
+        };
+        if last.has_entries {
+            return;
+        }
+        let folder = self.its.place.folder.as_str();
+        let _ = self.disk.remove(self.alloc, folder, last.number);
+        self.its.segments.pop();
+    }
+}
+
+impl<R: Clock, D: SpoolDisk + Drop> Session<'_, R, D> {
+    /// Removes the oldest segments as long as nothing of them counts. If they have too many octets, what is open in the oldest
+    /// is written once more.
+    fn remove_old(&mut self) -> Result<(), SpoolFault> {
+        let now = self.now();
+        for _ in 0..self.its.segments.len() {
+            if !self.its.may_remove || !self.can_go(now)? {
+                return Ok(());
+            }
+            self.remove_oldest()?;
+        }
+        Ok(())
+    }
+
+    /// Returns whether nothing of the oldest segment counts, once what is open in it was written once more, if that is due.
+    fn can_go(&mut self, now: u64) -> Result<bool, SpoolFault> {
+        let [oldest, _, ..] = self.its.segments.as_slice() else {
+            return Ok(false);
+        };
+        let oldest = *oldest;
+        if oldest.is_within(now, self.its.span) {
+            return Ok(false);
+        }
+        if oldest.open == 0 {
+            return Ok(true);
+        }
+        let open = self.its.table.octets();
+        if !self.waiting.is_empty() || !is_over(&self.its.segments, now, self.its.span, open) {
+            return Ok(false);
+        }
+        self.write_again(oldest.number)?;
+        Ok(true)
+    }
+
+    /// Removes the oldest segment. If that fails, a crash may bring it back, so no other is removed then.
+    fn remove_oldest(&mut self) -> Result<(), SpoolFault> {
+        let Some(oldest) = self.its.segments.first() else {
+            return Ok(());
+        };
+        let folder = self.its.place.folder.as_str();
+        if let Err(error) = self.disk.remove(self.alloc, folder, oldest.number) {
+            self.its.may_remove = false;
+            return Err(SpoolFault::Write(system_number(&error)));
+        }
+        self.its.segments.remove(0);
+        Ok(())
+    }
+
+    /// Writes what is open in a segment once more, to the newest one.
+    fn write_again(&mut self, number: u64) -> Result<(), SpoolFault> {
+        let folder = self.its.place.folder.as_str();
+        let (mut device, octets) = match self.disk.find(self.alloc, folder, number) {
+            Ok(found) => found,
+            Err(error) => return Err(SpoolFault::Read(system_number(&error))),
+        };
+        if let Err(error) = recover(self.alloc, &mut device, &octets) {
+            return Err(append_fault(error));
+        }
+        let Ok(read) = read_segment(self.alloc, number, &octets) else {
+            return Err(SpoolFault::Memory);
+        };
+        self.body.clear();
+        for entry in &read.entries {
+            let (head, text) = *entry;
+            if let Head::Came(came) = head
+                && self.stands_in(&head, number)
+            {
+                put_again(&mut self.body, came, text)?;
+            }
+        }
+        self.append_body()?;
+        let newest = self.newest_number();
+        for entry in &read.entries {
+            let (head, _) = *entry;
+            if self.stands_in(&head, number) {
+                self.move_to(&head, newest);
+            }
+        }
+        Ok(())
+    }
+
+    /// Returns whether an entry is a request that is open and stands in this segment.
+    fn stands_in(&self, head: &Head, number: u64) -> bool {
+        match head {
+            Head::Came(came) => match self.its.table.find(&came.key) {
+                Some(place) => place.segment == number && place.arrival == came.arrival,
+                None => false,
+            },
+            _ => false,
+        }
+    }
+
+    /// Notes that a request stands in this segment now.
+    fn move_to(&mut self, head: &Head, number: u64) {
+        let Head::Came(came) = head else {
+            return;
+        };
+        self.its.table.move_to(&came.key, number);
+        if let Some(segment) = find_mut(self.its.segments.as_mut_slice(), number) {
+            segment.open = segment.open.saturating_add(1);
+            segment.see(came.moment);
+        }
+    }
+}
