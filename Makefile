@@ -112,14 +112,16 @@ spoiled:
 	@$(TESTS).models.spoiled_datagrams $(PROGRAM) $(DATAGRAMS) $(SEED)
 
 # The program over UDP and a network that loses, for SECONDS, and then, for as long, whether its memory grows under a load
-# that does not; the gate has short runs of a fixed count of requests. Then fifty runs that are killed at random moments, and a
-# disk that takes ten seconds for each write, whose ledgers are compared with what was acknowledged.
+# that does not; the gate has short runs of a fixed count of requests. Then fifty runs that are killed at random moments, two hundred over a
+# spool and twenty that end in order over it, and a disk that takes ten seconds for each write, whose ledgers are compared with what was
+# acknowledged.
 #: soak        the program over a network that loses, for SECONDS seconds; kills; a slow disk
 soak:
 	@status=0; \
 	$(TESTS).network.lossy_network $(PROGRAM) --seconds $(SECONDS) $(SEED) || status=1; \
 	$(TESTS).faults.memory_leaks $(PROGRAM) --seconds $(SECONDS) || status=1; \
 	$(TESTS).network.lossy_network $(PROGRAM) --kills 50 $(SEED) || status=1; \
+	$(TESTS).faults.killed_runs $(PROGRAM) --kills 200 --ends 20 --seed $(SEED) || status=1; \
 	$(TESTS).ledger.folders_and_writes $(PROGRAM) --long || status=1; \
 	exit $$status
 
@@ -201,7 +203,7 @@ MANY = -e 's,@of@, %i,' -e 's,@config@,%i,g' -e 's,@runtime@,rad_proxy-%i,'
 # The tools, which are Python programs with modules beside them; and the modules of rad_proxyctl, which root runs: they are installed
 # beside `serve`, and nothing else is there.
 TOOLS = rad_convert rad_ledger rad_resend rad_trial
-CONTROL = version.py configuration.py trial/__init__.py trial/faults.py $(patsubst tools/%,%,$(wildcard tools/controlling/*.py))
+CONTROL = version.py configuration.py resending.py $(patsubst %,trial/%.py,__init__ faults radius settings) $(patsubst tools/%,%,$(wildcard tools/controlling/*.py))
 
 .PHONY: install install-proxy install-tools uninstall manual deb service
 

@@ -58,6 +58,8 @@ FAULTS = {
     "a sync of the ledger hangs": ["RadProxyLedgerUnsynced"],
     "a write of the ledger hangs, 60 records of 4,000 octets a second": ["RadProxyLedgerWaits", "RadProxyLedgerDrops"],
     "the file of the ledger is removed": ["RadProxyLedgerLost"],
+    "a sync of the spool hangs": ["RadProxySpoolUnsynced"],
+    "the disk of the spool fails": ["RadProxySpoolFails", "RadProxySpoolUnsynced"],
 }
 # How a hang is made: what each thing takes, in milliseconds.
 HANGS = {"a sync": {"SLOW_SYNC": "600000"}, "a write": {"SLOW_WRITE": "600000"}, "worker": {"SLOW_SEND": "600000"}}
@@ -83,7 +85,7 @@ class Place:
                    Server("other", self.other_home(), realm="other.example", secret=SECRET.decode())]
         text = configured(f"{HERE}:{self.listen[1]}", servers, [HERE, "127.0.0.2"], SECRET.decode(), linger=0)
         self.proxy = Proxy(program, self.folder, text, self.listen)
-        self.clock, self.mark, self.ledger = (self.folder / file for file in ("clock", "mark", "ledger"))
+        self.clock, self.mark, self.ledger, self.spool = (self.folder / file for file in ("clock", "mark", "ledger", "spool"))
         self.clock.write_text("0")
         self.ledger.mkdir()
         self.proxy.start(env=environment("off") | {"RAD_PROXY_COUNTERS": str(self.proxy.counters)} | self.variables())
@@ -100,12 +102,16 @@ class Place:
     def variables(self):
         """What the program is started with, so that the fault can befall it."""
         found = {"RAD_PROXY_LEDGER": str(self.ledger)} if "ledger" in self.name else {}
+        if "spool" in self.name:
+            found |= {"RAD_PROXY_SPOOL": str(self.spool)}
+        if "disk" in self.name:
+            found |= {"LD_PRELOAD": built(self.folder, "failing_disks"), "DISK_PATH": str(self.spool), "SYNC_FAILS": str(self.mark)}
         if "clock" in self.name:
             found |= {"LD_PRELOAD": built(self.folder, "wrong_clock"), "CLOCK_FILE": str(self.clock)}
         for hang, wait in HANGS.items():
             if hang in self.name:
-                found |= {"LD_PRELOAD": built(self.folder, "slow_files"), "SLOW_PATH": str(self.ledger), "SLOW_WHILE": str(self.mark),
-                          "SLOW_PORT": str(self.slow_port)} | wait
+                found |= {"LD_PRELOAD": built(self.folder, "slow_files"), "SLOW_PATH": str(self.spool if "spool" in self.name else self.ledger),
+                          "SLOW_WHILE": str(self.mark), "SLOW_PORT": str(self.slow_port)} | wait
         return found
 
     def has(self, fault):

@@ -2,11 +2,12 @@
 import hashlib
 import json
 import re
+import socket
 from dataclasses import dataclass
 from datetime import datetime, timezone
 
 from trial import radius
-from trial.faults import Fault, shown_path, told_by
+from trial.faults import USAGE, Fault, shown_path, told_by
 from trial.settings import ADDRESS
 
 MOST_OF_A_LINE = 65_536
@@ -41,7 +42,8 @@ def moment_of(text):
 
 @dataclass(frozen=True)
 class Left:
-    """A request that was left: its place in its lane, its state, its packet as it came, and the moment from which it is late."""
+    """A request that was left: its place in its lane, its state, its packet as it came, the moment from which it is late, and whether a spool
+    has it."""
 
     home: str
     record: int
@@ -50,6 +52,7 @@ class Left:
     request: bytes
     since: float
     place: str
+    kept: bool = False
 
     @classmethod
     def read(cls, line, place):
@@ -57,12 +60,13 @@ class Left:
         try:
             home, record, state, client = (line[key] for key in ("home", "record", "state", "client"))
             request, since = bytes.fromhex(line["request"]), moment_of(line.get("accepted", line["time"]))
-            if not HOME_NAME.fullmatch(home) or not ADDRESS.fullmatch(client) or type(record) is not int or state not in STATES:
+            kept = "kept" in line
+            if not HOME_NAME.fullmatch(home) or not ADDRESS.fullmatch(client) or type(record) is not int or state not in STATES or kept and line["kept"] is not True:
                 raise ValueError
             radius.attributes_of(request)
         except (KeyError, TypeError, ValueError, radius.NoPacket):
             raise NoLine from None
-        return cls(home, record, state, client, radius.whole(request), since, place)
+        return cls(home, record, state, client, radius.whole(request), since, place, kept)
 
     def attributes(self):
         return radius.attributes_of(self.request)
@@ -99,6 +103,39 @@ def as_radclient(attributes):
     return "".join(f"Attr-{kind} = 0x{value.hex()}\n" for kind, value in attributes)
 
 
+def home_of(name, found, settings, config):
+    """The home server whose requests are printed, as the configuration has it: the one of this name, or the only one that has some."""
+    names = sorted({left.home for left in found})
+    if name is None and len(names) > 1:
+        raise Fault(f"home servers with requests that were left: {', '.join(names)}: choose one by --home", USAGE)
+    name = names[0] if name is None else name
+    home = next((home for home in settings.homes if home.name == name), None)
+    if home is None:
+        raise Fault(f"{config} has no home server {name}", USAGE)
+    return home
+
+
+def texts_of(found, settings, now, source, tell):
+    """The text of each request, with what is left out told. Without a moment Acct-Delay-Time stays as it came."""
+    for left in found:
+        secret = settings.clients.get(socket.inet_aton(left.client))
+        if secret is None or not radius.is_signed(left.request, secret):
+            tell(f"{left.place}: left out: it is no request under the secret of its client {left.client}")
+            continue
+        try:
+            text = as_radclient(left.attributes() if now is None else left.delayed(now))
+        except NotCarried as it:
+            tell(f"{left.place}: left out: radclient does not send an attribute of type {it} as it came")
+            continue
+        address = f"Packet-Src-IP-Address = {source}\n" if source else ""
+        yield f"# {left.home} {left.record} {left.state}\n{address}{text}"
+
+
+def way_to(home):
+    """How radclient sends the texts to a home server."""
+    return f"send them: radclient -f FILE -S SECRETFILE {socket.inet_ntoa(home.address)}:{home.port} acct"
+
+
 def lines_of(file):
     """The lines of a file. Of one that is too long the front is enough."""
     while line := file.readline(MOST_OF_A_LINE + 2):
@@ -111,11 +148,12 @@ def lines_of(file):
 class Ledger:
     """What files of a ledger have that matters here: the records that were left, and those that were answered.
 
-    A record that was left more than once, since its NAS sent it to a later run too, is in the last of its states.
+    A record that was left more than once, since its NAS or a spool gave it to a later run too, is in the last of its states. A spool has it
+    where it had it once: it offers it to each run until that has answered it.
     """
 
     def __init__(self, paths):
-        self.left, self.answered, self.told = {}, set(), []
+        self.left, self.kept, self.answered, self.told = {}, set(), set(), []
         for path in paths:
             try:
                 with open(path, "rb") as file:
@@ -141,9 +179,12 @@ class Ledger:
         try:
             if kind == "left":
                 left = Left.read(found, place)
-                before = self.left.setdefault(left.print_of(), left)
+                key = left.print_of()
+                before = self.left.setdefault(key, left)
                 if STATES.index(before.state) < STATES.index(left.state):
-                    self.left[left.print_of()] = left
+                    self.left[key] = left
+                if left.kept:
+                    self.kept.add(key)
             elif kind == "entry":
                 self.answered.add(print_of(found["client"], radius.attributes_of(bytes.fromhex(found["sent"]))[:-1]))
         except (NoLine, KeyError, TypeError, ValueError, radius.NoPacket):
@@ -153,3 +194,7 @@ class Ledger:
         """The records that were left and not answered since, of a home server or of all, and how many were answered."""
         found = {key: left for key, left in self.left.items() if home in (None, left.home)}
         return [left for key, left in found.items() if key not in self.answered], len(found.keys() & self.answered)
+
+    def is_kept(self, left):
+        """Whether a spool has this record."""
+        return left.print_of() in self.kept

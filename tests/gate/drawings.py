@@ -202,7 +202,7 @@ PLACES = {
     "rad_telemetry": (2, 1), "ledger_writer": (4, 1), "rad_audit": (5, 1),
     "config_json": (0, 2), "rad_replay": (1, 2), "rad_server": (2, 2), "spool_writer": (3, 2), "ledger_lines": (4, 2), "ledger_files": (5, 2),
     "rad_console": (2, 3), "rad_metrics": (3, 3), "ledger_rules": (4, 3),
-    "rad_advice": (0, 4), "rad_addresses": (1, 4), "ledger_state": (2, 4), "rad_simulation": (5, 4),
+    "rad_advice": (0, 4), "rad_addresses": (1, 4), "ledger_state": (2, 4), "spool_runs": (4, 4), "rad_simulation": (5, 4),
     "rad_desk": (3, 5), "rad_network": (4, 5),
     "json_objects": (5, 6), "rad_log": (1, 6), "locked_lanes": (3, 6), "rad_progress": (4, 6),
     "rad_lane": (3, 7), "spool_files": (5, 7),
@@ -217,7 +217,7 @@ GUTTERS = {("library_tests", "ledger_lines"): 3.5, ("library_tests", "spool_file
            ("rad_audit", "rad_files"): 0.5, ("rad_audit", "rad_log"): 1.5, ("ledger_rules", "rad_lane"): 3.5,
            ("rad_proxy", "rad_advice"): 0.5, ("config_json", "rad_files"): 0.5, ("config_json", "rad_log"): 0.5,
            ("config_json", "rad_realms"): 1.5, ("rad_replay", "rad_files"): 0.5, ("rad_metrics", "rad_log"): 0.5,
-           ("rad_telemetry", "rad_metrics"): 2.5, ("ledger_writer", "rad_metrics"): 3.5, ("spool_writer", "rad_desk"): 3.5, ("spool_writer", "spool_files"): 4.5, ("spool_writer", "rad_log"): 0.5}
+           ("rad_telemetry", "rad_metrics"): 2.5, ("ledger_writer", "rad_metrics"): 3.5, ("spool_writer", "rad_desk"): 3.5, ("spool_writer", "spool_files"): 4.5, ("spool_runs", "spool_files"): 4.5, ("spool_writer", "rad_log"): 0.5}
 PROGRAMS = "rad_proxy", "rad_audit", "config_json"
 MOST_CHARACTERS = 24
 LEGEND = ["An arrow leads to what a crate uses;", "it uses what that rests on too.", "In small type: libraries of the kit."]

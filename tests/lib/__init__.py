@@ -1,7 +1,7 @@
 """What the tests share; each script takes what it needs of it by one line."""
 from tests.lib import audit_model, ledgers, loads, lossy, packets, progress, rows, trying
 from tests.lib.ledgers import Lane, Run, text, worded
-from tests.lib.metric_texts import LEDGER_METRICS, text_of
+from tests.lib.metric_texts import LEDGER_METRICS, SPOOL_METRICS, text_of
 from tests.lib.model import Fault, Replay, answers, is_right_status, is_signed, read
 from tests.lib.packets import (A_CLASS, ACCOUNTING_REQUEST, ACCOUNTING_RESPONSE, ACCT_SESSION_ID, ACCT_STATUS_TYPE, BOB, CLASS, FROM_NAS,
                                HOME_SECRET, MESSAGE_AUTHENTICATOR, NAS_SECRET, PROXY_STATE, SESSION, START, STATUS_SERVER, USER_NAME, WORDS,

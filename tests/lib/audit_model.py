@@ -114,9 +114,10 @@ def read_lanes(line, *forms):
 
 def read_request(keys, least, line):
     """What an entry and a request that was left both have."""
-    need(least <= keys <= least | OPTIONAL | {"sendings", "accepted"})
+    need(least <= keys <= least | OPTIONAL | {"sendings", "accepted"} | ({"kept"} if least == LEFT else set()))
     need(not any({word, f"{word}_octets"} <= keys for word in WORDS))
-    are_right(keys - {"accepted"}, line)
+    are_right(keys - {"accepted", "kept"}, line)
+    need(line.get("kept", True) is True)
     need(ADDRESS.fullmatch(line["client"]) and all(int(number) < 256 for number in line["client"].split(".")))
     need(re.fullmatch("[0-9a-fA-F]{32}", line["authenticator"]))
 

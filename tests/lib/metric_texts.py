@@ -1,4 +1,4 @@
-"""The text of all metrics, written out by the rules of docs/formats.md: of a program that keeps no ledger, and what a ledger adds.
+"""The text of all metrics, written out by the rules of docs/formats.md: of a program that keeps no ledger and no spool, and what each adds.
 
 `text_of` makes it of the numbers that are known. A metric whose value depends on the time has a word in its place: TIME for a moment,
 AGE for a time that has passed, SECONDS for the sum of a histogram and SOME for what it counts up to a bound.
@@ -86,6 +86,20 @@ LEDGER_METRICS = [
     ("client_ledger_dropped_total", COUNTER, "Entries of the client that are missing from the ledger because too many waited.", CLIENT, None,
      "0"),
 ]
+# Those of a spool, which stand behind all others if there is one.
+SPOOL_METRICS = [
+    ("spool_open_requests", GAUGE, "Requests in the spool that are not answered.", PROGRAM, None, "0"),
+    ("spool_unsynced_requests", GAUGE, "Those of them that are not on disk yet.", PROGRAM, None, "0"),
+    ("spool_unsynced_seconds", GAUGE, "How long ago all of them were on disk.", PROGRAM, None, "AGE"),
+    ("spool_oldest_seconds", GAUGE, "How long ago the oldest of them came in, and 0 without one.", PROGRAM, None, "0.000"),
+    ("spool_bytes", GAUGE, "The size of the spool's files.", PROGRAM, None, "0"),
+    ("spool_lost_total", COUNTER, "Requests and responses that found no room on their way to the spool.", PROGRAM, None, "0"),
+    ("spool_written_total", COUNTER, "Entries that were written to the spool.", PROGRAM, None, "0"),
+    ("spool_faults_total", COUNTER, "How often the spool could not be written.", PROGRAM, None, "0"),
+    ("spool_failing", GAUGE, "Whether the spool can't be written.", PROGRAM, None, "0"),
+    ("spool_dropped_requests", GAUGE, "Requests of earlier runs that no longer pass the checks.", PROGRAM, None, "0"),
+    ("spool_held_total", COUNTER, "Datagrams that waited for requests of earlier runs.", PROGRAM, None, "0"),
+]
 
 
 def buffer():
@@ -113,7 +127,7 @@ def names_of(name, kind, labels):
 
 
 def text_of(numbers, client, homes=(), socket="", realms=(), metrics=METRICS):
-    """The lines of metrics, of all but a ledger's if no others are named, where these numbers are known, by their names and labels: of
+    """The lines of metrics, of all but a ledger's and a spool's if no others are named, where these numbers are known, by their names and labels: of
     this client, of the home servers and the realms with these labels, and of the clients' socket at this address."""
     lines = []
     for name, kind, about, whose, apart, value in metrics:

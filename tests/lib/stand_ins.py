@@ -27,6 +27,15 @@ rad_proxy_reply_seconds_bucket{{lane="0",home="h1",le="0.010"}} 0
 rad_proxy_reply_seconds_bucket{{lane="0",home="h1",le="0.025"}} {count}
 rad_proxy_reply_seconds_bucket{{lane="0",home="h1",le="+Inf"}} {count}
 """
+# The numbers of a spool: how many requests are open, how many of these are not on disk, whether the disk fails, and how many found no room;
+# and what the lane has.
+SPOOL = """rad_proxy_spool_open_requests {}
+rad_proxy_spool_unsynced_requests {}
+rad_proxy_spool_failing {}
+rad_proxy_spool_lost_total {}
+rad_proxy_queued{{lane="0",home="h1"}} {}
+rad_proxy_outstanding{{lane="0",home="h1"}} {}
+"""
 
 
 class StandIn(threading.Thread):
@@ -36,6 +45,7 @@ class StandIn(threading.Thread):
         super().__init__(daemon=True)
         self.folder, self.is_over = folder, False
         self.mode, self.queued, self.outstanding, self.rate = "open", 0, 0, 0
+        self.watch, self.spool = "up", None
         self.reads, self.answers_drain, self.stops_at_drain, self.writes = True, True, False, False
         self.drained_at, self.asked_before, self.begun = None, 0, time.monotonic()
         folder.mkdir(0o700)
@@ -49,7 +59,7 @@ class StandIn(threading.Thread):
     def line(self):
         answered = int((time.monotonic() - self.begun) * self.rate)
         accepted = answered + self.queued + self.outstanding
-        return (f"lane 0 h1 up {self.mode} accepted {accepted} queued {self.queued} outstanding {self.outstanding} answered {answered} "
+        return (f"lane 0 h1 {self.watch} {self.mode} accepted {accepted} queued {self.queued} outstanding {self.outstanding} answered {answered} "
                 "opening 0")
 
     def answer_of(self, command):
@@ -83,7 +93,8 @@ class StandIn(threading.Thread):
     def write_counters(self):
         self.count += 10
         new = self.folder / "counters.new"
-        new.write_text(self.text.format(start=time.time() - 18_459, now=time.time(), count=self.count))
+        spool = SPOOL.format(*self.spool, self.queued, self.outstanding) if self.spool else ""
+        new.write_text(self.text.format(start=time.time() - 18_459, now=time.time(), count=self.count) + spool)
         new.replace(self.folder / "counters")
 
     def run(self):

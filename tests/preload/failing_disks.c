@@ -6,7 +6,8 @@
  * with the text "taken". And it lets steps of the files whose path begins with DISK_PATH fail: so many times the mode can't be set
  * (MODE_FAULTS) and a file can't be looked at (LOOK_FAULTS). A write takes at most WRITE_MOST octets. Once all writes took ROOM octets,
  * so many fail for want of room (WRITE_FAULTS), and the others take all. While the file SYNC_FAILS is there each sync fails, and
- * while WRITE_FAILS is there each write.
+ * while WRITE_FAILS is there each write. The next sync behind a write of one octet fails once the file GATE_FAILS is there, which it takes
+ * away.
  */
 #define _GNU_SOURCE
 #include <dlfcn.h>
@@ -24,6 +25,7 @@
 typedef int (*opening)(const char *, int, ...);
 
 static atomic_int is_taken;
+static _Thread_local size_t last;
 static atomic_long failed_modes, failed_looks, failed_writes, written;
 
 static long number_in(const char *name)
@@ -93,6 +95,7 @@ ssize_t write(int file, const void *octets, size_t count)
     if (written == number_in("ROOM") && fails("WRITE_FAULTS", &failed_writes, ENOSPC)) {
         return -1;
     }
+    last = count;
     ssize_t taken = next(file, octets, taken_of(count));
     written += taken > 0 ? taken : 0;
     return taken;
@@ -115,7 +118,8 @@ static int sync_by(const char *call, int file)
 {
     int (*next)(int) = dlsym(RTLD_NEXT, call);
     note_sync();
-    if (is_there("SYNC_FAILS")) {
+    const char *gate = getenv("GATE_FAILS");
+    if (is_there("SYNC_FAILS") || (gate && last == 1 && is_on_disk(file) && unlink(gate) == 0)) {
         errno = EIO;
         return -1;
     }

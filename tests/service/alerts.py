@@ -34,7 +34,7 @@ FROM_ONE_LOOK = {
     "RadProxyClockStands": "time() - rad_proxy_report_time_seconds > 60",
 }
 AT_ONCE = ["RadProxyRecordStuck", "RadProxyBookFills", "RadProxyQueueFills", "RadProxyQueueWaits", "RadProxyHomeSlow", "RadProxyClientUnanswered",
-           "RadProxyLedgerWaits", "RadProxyLedgerUnsynced"]
+           "RadProxyLedgerWaits", "RadProxyLedgerUnsynced", "RadProxySpoolUnsynced", "RadProxySpoolFails"]
 
 
 def rules():
@@ -145,6 +145,9 @@ def of_day():
     yield 'rad_proxy_client_received_total{client="192.0.2.11"}', sum_to(lambda minute: records(minute) // 40)
     yield 'rad_proxy_client_dropped_total{client="192.0.2.10",reason="NoRealm"}', sum_to(lambda minute: int(minute % 7 == 0))
     yield "rad_proxy_strangers_total", sum_to(lambda minute: int(minute % 11 == 0))
+    for name, value in (("unsynced_seconds", 0.04), ("failing", 0), ("lost_total", 0), ("dropped_requests", 0)):
+        yield f"rad_proxy_spool_{name}", [value for _ in each]
+    yield "rad_proxy_spool_oldest_seconds", [40 if minute % 360 < 5 else 0.3 for minute in each]
     for name, part in (("0.25", 60), ("2", 99), ("4", 100), ("+Inf", 100)):
         yield f'rad_proxy_response_seconds_bucket{{lane="0",home="h1",le="{name}"}}', sum_to(lambda minute, part=part: records(minute) * part // 100)
 
@@ -195,6 +198,11 @@ OF_A_DAY = {
     "RadProxyHomeSlow": ('rad_proxy_response_seconds_bucket.*le="(0.25|2)"', lambda values, minute: values[min(minute, FAULT_AT)]),
     "RadProxyClockStands": ("rad_proxy_report_time_seconds", lambda values, minute: values[FAULT_AT if is_now(minute) else minute]),
     "RadProxyLaneStands": ("rad_proxy_home_report_time_seconds", lambda values, minute: values[FAULT_AT if is_now(minute) else minute]),
+    "RadProxySpoolUnsynced": ("rad_proxy_spool_unsynced_seconds", lambda values, minute: 60 * since(minute, 1) if is_now(minute) else values[minute]),
+    "RadProxySpoolFails": ("rad_proxy_spool_failing", lambda values, minute: int(is_now(minute))),
+    "RadProxySpoolLost": ("rad_proxy_spool_lost_total", lambda values, minute: values[minute] + since(minute, 7)),
+    "RadProxySpoolOld": ("rad_proxy_spool_oldest_seconds", lambda values, minute: 3700 if is_now(minute) else values[minute]),
+    "RadProxySpoolDropped": ("rad_proxy_spool_dropped_requests", lambda values, minute: 12 if is_now(minute) else values[minute]),
 }
 
 
@@ -210,7 +218,7 @@ def each_fault_of_a_day_fires_its_own():
 # What is told of the alerts of a cause. An alert is its name and its labels; a message is a receiver, and the alerts that it has.
 
 CRITICAL = {"RadProxyGone", "RadProxyHomeDown", "RadProxyHomeSilent", "RadProxyClientUnanswered", "RadProxyLedgerWaits", "RadProxyLedgerUnsynced",
-            "RadProxyLedgerDrops", "RadProxyClockStands", "RadProxyLaneStands"}
+            "RadProxyLedgerDrops", "RadProxyClockStands", "RadProxyLaneStands", "RadProxySpoolUnsynced", "RadProxySpoolFails"}
 
 
 def alert(name, instance, **labels):
@@ -236,6 +244,13 @@ CAUSES = {
         of_home("d", "h1", "RadProxyRecordStuck", "RadProxyHomeFlaps", "RadProxyBookFills"), [("mail", "RadProxyRecordStuck h1")]),
     "the ledger's disk is full": (
         [alert(f"RadProxyLedger{what}", "e") for what in ("Waits", "Unsynced", "Drops")], [("call", "RadProxyLedgerDrops e, RadProxyLedgerWaits e")]),
+    "the spool's disk is full": (
+        [alert(f"RadProxySpool{what}", "h") for what in ("Fails", "Unsynced", "Lost")], [("call", "RadProxySpoolFails h")]),
+    "the spool's disk hangs": (
+        [alert(f"RadProxySpool{what}", "i") for what in ("Unsynced", "Lost", "Old")],
+        [("call", "RadProxySpoolUnsynced i"), ("mail", "RadProxySpoolOld i")]),
+    "a client is gone, and the spool has some of its requests": (
+        [alert(f"RadProxySpool{what}", "j") for what in ("Dropped", "Old")], [("mail", "RadProxySpoolDropped j")]),
     "the clock stands": (
         [alert("RadProxyClockStands", "f"), *of_home("f", "h1", "RadProxyLaneStands")], [("call", "RadProxyClockStands f")]),
 }

@@ -6,6 +6,7 @@ Each test is a function below, and its first line tells what holds. It wants no 
 service, or one that stands for systemctl, which wants root. The last line is `N passed, M failed`.
 """
 import contextlib
+import fcntl
 import os
 import re
 import select
@@ -405,6 +406,84 @@ def a_restart_loses_nothing(room):
     hope("at the home server", room.home.sessions(), {b"s%05d" % number: 1 for number in range(500)})
 
 
+def open_in_spool(room):
+    """How many requests are open, by the last line of `spool`."""
+    return int(room.ask("spool").stdout.splitlines()[-1].split()[3])
+
+
+def is_free(path):
+    """Whether no process holds the lock of a file or a folder."""
+    descriptor = os.open(path, os.O_RDONLY)
+    try:
+        fcntl.flock(descriptor, fcntl.LOCK_EX | fcntl.LOCK_NB)
+        return True
+    except BlockingIOError:
+        return False
+    finally:
+        os.close(descriptor)
+
+
+def a_kill_loses_nothing_of_a_spool(room):
+    """`serve` hands the folder of the spool on, also by a relative path; what waits there when the service is killed arrives after the next start, and
+    `spool` tells both."""
+    room.environment["RAD_PROXY_SPOOL"] = os.path.relpath(room.room / "spool")
+    room.home.rate = 0
+    room.start()
+    room.send(40)
+    until("all is on disk", lambda: open_in_spool(room) == 40)
+    hope("the folder", oct((room.room / "spool").stat().st_mode), "0o40700")
+    os.killpg(int((room.room / "pid").read_text()), signal.SIGKILL)
+    until("its end", lambda: is_free(room.run) and is_free(room.room / "spool/lock"))
+    hope("what waits", open_in_spool(room), 40)
+    room.home.rate = None
+    room.start()
+    until("each arrives", lambda: len(room.home.sessions()) == 40)
+    until("nothing waits", lambda: open_in_spool(room) == 0)
+
+
+def with_a_spool_a_home_server_may_be_down(room):
+    """With a spool the service is restarted while a home server is down, with status 0: what waits arrives after that, at another address where the
+    configuration has another one by then; a queue is not waited for, and what is outstanding is sent again."""
+    room.configure("first_wait = 500\ntries = 1\ndown_wait = 600000\nprobe_every = 600000\nwindow = 8\n")
+    room.environment["RAD_PROXY_SPOOL"] = str(room.room / "spool")
+    room.home.rate = 0
+    room.start()
+    room.send(60)
+    until("it is down", lambda: room.lanes()[0][3] == "down")
+    done = room.ask("restart")
+    hope("it is restarted", (done.returncode, done.stdout.splitlines()[1:], done.stderr), (0, ["on disk: 60", "restarted"], ""))
+    hope("starts", (room.room / "printed").read_text().count("listening"), 2)
+    until("it is down again", lambda: room.lanes()[0][3] == "down")
+    room.home, dead = room.others[0], room.home
+    room.others[0] = dead
+    room.configure("window = 8\n")
+    done = room.ask("restart")
+    hope("it is restarted again", (done.returncode, done.stdout.splitlines()[-1], done.stderr), (0, "restarted", ""))
+    until("each arrives", lambda: len(room.home.sessions()) == 60)
+    hope("each once", set(room.home.sessions().values()), {1})
+    until("nothing waits", lambda: open_in_spool(room) == 0)
+
+
+def with_a_spool_a_restart_under_load_loses_nothing(room):
+    """Over a spool the same holds while more waits than is answered in time: no restart is refused, and each record arrives."""
+    room.environment["RAD_PROXY_SPOOL"] = str(room.room / "spool")
+    room.configure("window = 4\n")
+    room.home.rate = 20
+    room.start()
+    nas = PersistentNas(room.port, 500, 50)
+    nas.start()
+    for count in range(2, 5):
+        time.sleep(1)
+        done = room.ask("restart", "--wait", "1")
+        hope("restart", (done.returncode, done.stderr, done.stdout.splitlines()[-1:]), (0, "", ["restarted"]))
+        hope("starts", (room.room / "printed").read_text().count("listening"), count)
+    room.home.rate = 500
+    nas.join()
+    hope("at the NAS", sorted(nas.answered), list(range(500)))
+    hope("at the home server", sorted(room.home.sessions()), [b"s%05d" % number for number in range(500)])
+    need(max(room.home.sessions().values()) <= 4, room.home.sessions())
+
+
 class StrictHome(PacedHome):
     """A home server that drops what is not signed by its secret, and keeps the rest."""
 
@@ -760,6 +839,10 @@ def bash_completes_the_words(room):
         "rad_proxyctl probe -s ": "", "rad_proxyctl restart --f": "--force", "rad_proxyctl restart --wait ": "",
         "rad_proxyctl restart --force --": "--wait --out --help", "rad_proxyctl restart -c wa": "way.toml",
         "rad_proxyctl trace --user bob --user": "--user", "rad_proxyctl trace --user ": "",
+        "rad_proxyctl spool ": "list export drop --folder -c --help", "rad_proxyctl spool list --": "--home --client --dropped --folder --help",
+        "rad_proxyctl spool --folder u": "usr", "rad_proxyctl spool drop --home ": "", "rad_proxyctl spool drop --because ": "",
+        "rad_proxyctl spool drop --b": "--because", "rad_proxyctl spool export --k": "--keep-delay", "rad_proxyctl spool -c wa": "way.toml",
+        "rad_proxyctl spool list --dropped No": "NoRealm",
         "rad_proxyctl check wa": "way.toml", "rad_proxyctl check --s": "--strict", "rad_proxyctl check --strict wa": "way.toml",
         "rad_proxyctl check way.toml ": "--strict --rate --help", "rad_proxyctl check --strict --": "--rate --help",
         "rad_proxyctl check --rate 5 wa": "way.toml", "rad_proxyctl check --rate ": "",
@@ -772,8 +855,9 @@ def bash_completes_the_words(room):
     hope("what a name evaluated", list(room.room.glob("**/planted")), [])
     usage = room.ask("--help").stdout.split("\n\n")[0]
     lines = [re.sub(r"\b[A-Z:]+\b", "", line).split("rad_proxyctl", 1)[1] for line in usage.splitlines()]
-    known = {word for line in lines for word in re.findall(r"(?:--?)?[a-z]+", line)}
-    found = {word for words in ("", "probe ", "restart ", "trace ", "check -") for word in completed(room, *f"rad_proxyctl {words}".split(" "))}
+    known = {word for line in lines for word in re.findall(r"(?:--?)?[a-z]+(?:-[a-z]+)*", line)}
+    found = {word for words in ("", "probe ", "restart ", "trace ", "check -", "spool ", "spool export -", "spool drop -")
+             for word in completed(room, *f"rad_proxyctl {words}".split(" "))}
     hope("words", found, known)
 
 
@@ -816,7 +900,8 @@ TESTS = [
     bash_completes_the_words, check_prints_what_is_wrong_and_doubtful,
     words_are_told_apart, relative_paths_hold, probe_sends_a_status_server, probe_of_a_home_server, three_datagrams_come_soon, strangers_do_not_fail_a_check,
     probe_takes_no_other_answer, probe_says_what_is_wrong_here,
-    probe_of_a_proxy, a_restart_loses_nothing, a_client_is_added, a_home_server_is_replaced, a_secret_of_a_home_server_is_replaced, waits_and_says_what_is_left, restarts_when_the_time_is_over,
+    probe_of_a_proxy, a_kill_loses_nothing_of_a_spool, with_a_spool_a_home_server_may_be_down,
+    with_a_spool_a_restart_under_load_loses_nothing, a_restart_loses_nothing, a_client_is_added, a_home_server_is_replaced, a_secret_of_a_home_server_is_replaced, waits_and_says_what_is_left, restarts_when_the_time_is_over,
     refuses_while_a_home_server_is_down, refuses_where_the_rate_is_too_low, a_wrong_configuration_drains_nothing,
     root_has_the_owner_check, one_restarts_it_at_a_time, whoever_restarts_it_meanwhile_ends_it, a_check_sees_it_go,
     without_a_way_nothing_is_drained, systemd_restarts_the_unit,

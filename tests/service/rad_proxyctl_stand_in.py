@@ -20,7 +20,7 @@ from concurrent.futures import ThreadPoolExecutor
 from tests.lib import PATIENCE, LeftOut, heed_signals, hope, need, try_named, until
 from tests.lib.stand_ins import Asking
 
-REFUSED, FAILED = 5, 4
+REFUSED, FAILED, LEFT_OVER = 5, 4, 3
 STRANGER = 65534
 ENDS = (signal.SIGHUP, signal.SIGINT, signal.SIGTERM)
 # At how many moments a restart is stopped, over how many seconds they are spread, and how many run at once.
@@ -209,6 +209,88 @@ def what_is_outstanding_counts_in_the_rate(stage):
          (REFUSED, "rad_proxyctl: not restarted, and not drained: more is queued and outstanding than is answered in 3 seconds, "
           "at the rate of the last 10"))
     hope("what is left", (names_in(one.folder), one.mode, calls.exists()), ([], "open", False))
+
+
+def with_a_spool(stage, name, opened, unsynced, fails=0, lost=0, **attributes):
+    """A stand-in whose counters have these numbers of a spool."""
+    one = stage.stand_in(name)
+    one.spool, one.writes = (opened, unsynced, fails, lost), True
+    for key, value in attributes.items():
+        setattr(one, key, value)
+    until("counters", (one.folder / "counters").exists)
+    return one
+
+
+def with_a_spool_no_queue_is_waited_for(stage):
+    """With a spool a home server that is down and a queue keep nobody from a restart, what is outstanding there is not waited for, and the
+    end tells how many requests are on disk; the same by --force; without a spool it refuses."""
+    for words in ((), ("--force",)):
+        one = with_a_spool(stage, f"down{len(words)}", 333, 0, watch="down", queued=300, outstanding=33)
+        way, calls = stage.restarting(one)
+        begun = time.monotonic()
+        status, out, told = stage.ask(one, "restart", "--wait", "90", *words, variables=way)
+        hope(f"{words}", (status, out.splitlines()[1:], told, calls.exists()), (0, ["on disk: 333", "restarted"], "", True))
+        need(time.monotonic() - begun < 60, "it waited")
+    one.spool, one.mode = None, "open"
+    status, _, told = stage.ask(one, "restart", variables=stage.restarting(one)[0])
+    hope("without one", (status, told.splitlines()[-1]), (REFUSED, "rad_proxyctl: not restarted, and not drained: a home server is down"))
+
+
+def with_a_spool_what_is_outstanding_is_waited_for(stage):
+    """With a spool what is outstanding at a home server that is up is waited for, though more waits than it answers; at the end of the time it is
+    restarted all the same, with status 0, since all is on disk."""
+    one = with_a_spool(stage, "answers", 5007, 0, queued=5000, outstanding=7)
+    way, calls = stage.restarting(one)
+    asker = stage.begin(one, "restart", "--wait", "60", variables=way)
+    until("it is drained", lambda: one.drained_at is not None, PATIENCE)
+    time.sleep(3)
+    hope("it waits", calls.exists(), False)
+    one.outstanding = 0
+    out, told = asker.communicate(timeout=PATIENCE)
+    hope("it is answered", (asker.returncode, out.splitlines()[1], out.splitlines()[-2:], told), (0, "left: h1 outstanding 7", ["on disk: 5007", "restarted"], ""))
+    other = with_a_spool(stage, "answers nothing", 7, 0, outstanding=7)
+    way, calls = stage.restarting(other)
+    begun = time.monotonic()
+    status, out, told = stage.ask(other, "restart", "--wait", "4", variables=way)
+    hope("it is not", (status, out.splitlines()[-2:], told, calls.exists()), (0, ["on disk: 7", "restarted"], "", True))
+    need(time.monotonic() - begun > 4, "it did not wait")
+
+
+def what_is_not_on_disk_keeps_from_a_restart(stage):
+    """With a spool a restart is refused while more is not on disk for ten seconds than came meanwhile, or the disk fails; nothing is drained."""
+    begun = []
+    cases = {"more than came": (9, 3, 0, 0), "a disk that fails": (9, 3, 1, 0), "what found no room": (6, 0, 0, 4), "it fails while `out` stands": (9, 0, 0, 0)}
+    for name, numbers in cases.items():
+        words = ("--out", "3") if "out" in name else ()
+        one = with_a_spool(stage, name, *numbers, rate=20 if name.startswith("a disk") else 0, queued=9)
+        way, calls = stage.restarting(one)
+        begun.append((name, one, calls, stage.begin(one, "restart", *words, variables=way), time.monotonic()))
+    until("the file out", (one.folder / "out").exists)
+    one.spool = 9, 3, 1, 0
+    for name, one, calls, asker, moment in begun:
+        told = asker.communicate(timeout=PATIENCE)[1]
+        need(time.monotonic() - moment > 9.5, "it looked for", time.monotonic() - moment, "seconds")
+        hope(name, (asker.returncode, told), (REFUSED, "rad_proxyctl: not restarted, and not drained: 3 of 9 open requests are not on disk\n"))
+        hope(f"{name}: what is left", (names_in(one.folder), one.mode, calls.exists()), (["counters"], "open", False))
+
+
+def what_came_just_now_is_waited_for(stage):
+    """With a spool requests that are not on disk since they came just now keep nobody from a restart: they are waited for behind the drain. What is not
+    on disk at the end of the time is told, with status 3."""
+    one = with_a_spool(stage, "loaded", 50, 9, rate=100)
+    way, calls = stage.restarting(one)
+    asker = stage.begin(one, "restart", "--wait", "60", variables=way)
+    until("it is drained", lambda: one.drained_at is not None, PATIENCE)
+    time.sleep(2)
+    hope("it waits", calls.exists(), False)
+    one.spool = 50, 0, 0, 0
+    out, told = asker.communicate(timeout=PATIENCE)
+    hope("it is on disk", (asker.returncode, out.splitlines()[1], out.splitlines()[-2:], told), (0, "left: 9 not on disk", ["on disk: 50", "restarted"], ""))
+    other = with_a_spool(stage, "never", 50, 9, rate=100)
+    way, calls = stage.restarting(other)
+    status, out, told = stage.ask(other, "restart", "--wait", "3", variables=way)
+    hope("it is not", (status, told.splitlines(), out.splitlines()[-1], calls.exists()),
+         (LEFT_OVER, ["left: 9 not on disk", "rad_proxyctl: restarted, though this was left after 3 seconds"], "on disk: 41", True))
 
 
 def nobody_else_keeps_root_from_a_restart(stage):
@@ -451,7 +533,9 @@ TESTS = [out_is_taken_away_where_it_is_stopped_before_the_drain, no_moment_of_a_
          no_moment_of_a_stop_leaves_something_where_each_step_is_slow, another_ones_restart_is_not_undone,
          out_is_taken_away_where_the_proxy_stalls, out_stays_where_the_proxy_drains_without_an_answer,
          out_stays_where_the_proxy_may_drain_yet,
-         the_look_at_the_rate_ends_once_it_suffices, what_is_outstanding_counts_in_the_rate, nobody_else_keeps_root_from_a_restart,
+         the_look_at_the_rate_ends_once_it_suffices, what_is_outstanding_counts_in_the_rate, with_a_spool_no_queue_is_waited_for,
+         with_a_spool_what_is_outstanding_is_waited_for, what_is_not_on_disk_keeps_from_a_restart, what_came_just_now_is_waited_for,
+         nobody_else_keeps_root_from_a_restart,
          who_is_not_root_locks_beside_the_fifos, a_trace_ends_where_the_service_does, no_stop_of_a_trace_leaves_the_file,
          a_trace_whose_output_nobody_reads_ends, nothing_of_a_query_is_left, numbers_are_of_after_the_answer, top_reads_numbers_in_every_locale,
          each_service_has_its_configuration, what_the_caller_sets_is_not_read]

@@ -581,6 +581,19 @@ def top_draws_what_is_there(service):
         os.close(ours)
 
 
+def top_has_a_line_of_the_spool(service):
+    """Over a spool `top` has a line of it: what is open there, what is not on disk, how old the oldest is, and how much room it takes."""
+    spool = service.room / "spool"
+    service.environment |= {"RAD_PROXY_SPOOL": str(spool)}
+    service.start()
+    until("counters", (service.run / "counters").exists)
+    service.send(request_of_nas())
+    until("it is open", lambda: "\nrad_proxy_spool_open_requests 1\n" in service.ask("metrics").stdout)
+    (line,) = [line for line in service.ask("top").stdout.splitlines() if line.startswith("SPOOL")]
+    hope("the line", re.sub(r"\d+\.\ds", "SECONDS", line), "SPOOL  1 open, 0 not on disk, the oldest SECONDS old, 0 dropped, 0.0 MiB")
+    hope("an age", 0 <= float(re.search(r"(\d+\.\d)s", line)[1]) < 60, True)
+
+
 def top_draws_a_table_as_soon_as_its_numbers_are_there(service):
     """On a terminal each table comes with its own numbers, and not with the next ones: so within less than a second of them."""
     service.start()
@@ -782,6 +795,7 @@ def each_panel_of_the_dashboard_draws(service):
     """Each expression of examples/grafana-dashboard.json gives numbers, where a real Prometheus scrapes the service under load."""
     if shutil.which("prometheus") is None:
         raise LeftOut("Prometheus is not here")
+    service.environment |= {"RAD_PROXY_SPOOL": str(service.room / "spool")}
     service.start()
     until("counters", (service.run / "counters").exists)
     panels = json.loads((TOP / "examples" / "grafana-dashboard.json").read_text())["panels"]
@@ -1249,7 +1263,7 @@ TESTS = [
     a_hand_over_that_dies_is_started_anew, nobody_reads_its_output, its_output_is_full, a_reader_that_pauses_again_loses_nothing, what_is_left_over_is_a_warning,
     counters_elsewhere_are_told, the_ledger_is_where_the_variable_says, counters_that_cannot_be_written_are_told, counters_that_are_not_written_are_told,
     metrics_are_as_prometheus_reads_them, metrics_go_to_a_file,
-    top_draws_what_is_there, top_draws_a_table_as_soon_as_its_numbers_are_there, top_of_no_proxy_ends, metrics_of_no_proxy_are_removed, metrics_go_to_no_other_file,
+    top_draws_what_is_there, top_has_a_line_of_the_spool, top_draws_a_table_as_soon_as_its_numbers_are_there, top_of_no_proxy_ends, metrics_of_no_proxy_are_removed, metrics_go_to_no_other_file,
     metrics_replace_nobody_elses_file, no_stop_of_metrics_leaves_a_file, metrics_are_had_by_http, http_waits_for_no_client, each_panel_of_the_dashboard_draws, sent_again_is_never_less_than_nothing, counters_that_are_written_late_are_waited_for,
     memory_is_refused_and_nothing_ends, relative_paths_hold, an_answer_that_cannot_be_written_is_told,
     whoever_keeps_the_pipe_is_not_waited_for, the_unit_takes_no_core_dump, root_asks_as_the_owner,

@@ -98,7 +98,7 @@ def of_ports():
 
 def of_linger():
     short = "a stop waits for answers for {} ms, which are no seconds"
-    long = "beyond 80000 ms: TimeoutStopSec of the unit ends the service before, where it is 90"
+    long = "beyond 80000 ms: TimeoutStopSec of the unit ends the service before, where it is 110"
     for linger, reason in ((0, None), (1, short.format(1)), (10, short.format(10)), (999, short.format(999)), (1000, None), (80000, None),
                            (80001, long), (600000, long)):
         yield f"linger = {linger}\n{WHOLE}", [warning("linger", f"top linger at line 1, column 1: {reason}")] if reason else []

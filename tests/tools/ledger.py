@@ -855,6 +855,20 @@ def what_was_left_is_told(program, folder):
         refused(stage, "find", 4, stage.config, "/dev/null")
 
 
+def what_a_spool_has_is_told(program, folder):
+    """Of records that were left it is told which ones a spool has, by the line of each, also by an index."""
+    stage, ledger = Stage(program, folder), Ledger(folder, 7)
+    for session, is_kept in ((b"K0", True), (b"K1", False), (b'"kept":true', False), (b"K3", True), (b"K4", False)):
+        line = ledger.made.left(session=session)
+        ledger.lines.append({**line, "kept": True} if is_kept else line)
+    ledger.write()
+    for more in ([], ["--index", pathlib.Path(folder, "index")], ["--index", pathlib.Path(folder, "index")]):
+        out, _ = stage.told(WHOLE, "find", *more, stage.config, ledger.path)
+        told = [("of session K0," in it or "of session K3," in it, "\n  the spool has it, and offers it to the next run\n" in it)
+                for it in out.split("\n\n") if " of session " in it]
+        hope(f"what is told {more}", sorted(told), [(False, False)] * 3 + [(True, True)] * 2)
+
+
 def one_home_servers_records_are_handed_out(program, folder):
     """The files that are handed out have the lines of one home server alone, and the sums of the others; they are those of the ledger, so
     that a line that is changed later is found. What was cut short is left away, and no file is written over."""
@@ -1115,7 +1129,7 @@ TESTS = [records_are_found, paragraphs_have_all, what_became_of_a_response_is_to
          sums_are_right, tables_are_right, no_text_of_a_table_is_a_formula, volumes_of_64_bits_are_kept, an_import_is_whole_or_nothing, an_import_replaces_what_was_otherwise, an_import_waits_before_it_reads,
          errors_are_one_line,
          details_are_compared, a_comparison_takes_bounded_memory, freeradius_writes_details, cut_anywhere_it_is_right_or_refused, spoiled_anywhere_it_ends_in_words,
-         what_was_left_is_told, one_home_servers_records_are_handed_out, what_is_handed_out_is_its_owners_alone,
+         what_was_left_is_told, what_a_spool_has_is_told, one_home_servers_records_are_handed_out, what_is_handed_out_is_its_owners_alone,
          what_is_handed_out_goes_to_a_file_system_of_its_own, nothing_turns_a_terminal,
          outputs_may_be_closed, times_that_do_not_exist_are_told, it_can_be_stopped, names_are_printed, progress_is_shown_at_a_terminal]
 LONG = [a_gigabyte_takes_bounded_time_and_memory]

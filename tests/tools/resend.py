@@ -188,6 +188,35 @@ def a_record_left_twice_is_printed_once(_, folder):
     need("left: queued 1, outstanding 2, untaken 1;" in done.stderr, done.stderr)
 
 
+def what_a_spool_has_is_left_out(_, folder):
+    """A record that a run told as kept is left out, also where another line of it does not say so, and told; --force prints it."""
+    room = Room(folder)
+    for name, lines in ((b"a", ((), ("kept",))), (b"b", (("kept",), ())), (b"c", (("kept",), ("kept",))), (b"d", ((),)), (b"e", (("kept", "outstanding"),))):
+        for delay, said in enumerate(lines):
+            attributes = START + attribute(44, name) + attribute(DELAY, bytes([0, 0, 0, delay]))
+            room.leave(attributes, "outstanding" if "outstanding" in said else "queued", **({"kept": True} if "kept" in said else {}))
+    done = room.ask("--keep-delay")
+    hope("printed", (done.returncode, done.stdout.count("#"), "Attr-44 = 0x64" in done.stdout), (0, 1, True))
+    hope("told", done.stderr.splitlines()[:2], [
+        "rad_resend: left: queued 4, outstanding 1, untaken 0; answered since: 0; printed: 1",
+        "rad_resend: left out, since a spool has them and offers them to the next run: 3 (--force prints them)"])
+    hope("outstanding too", "the next run: 4 (" in room.ask("--outstanding").stderr, True)
+    done = room.ask("--force")
+    hope("forced", (done.returncode, done.stdout.count("#"), "the next run" in done.stderr), (0, 4, False))
+    room.answer(START + attribute(44, b"b"))
+    hope("but one was answered", "the next run: 2 (" in room.ask().stderr, True)
+    only = Room(folder)
+    only.leave(START, kept=True)
+    done = only.ask()
+    hope("none", (done.returncode, done.stdout, done.stderr.splitlines()[1:]), (
+        0, "", ["rad_resend: left out, since a spool has them and offers them to the next run: 1 (--force prints them)"]))
+    for wrong in (False, 1, "true", None):
+        bad = Room(folder)
+        bad.leave(START, kept=wrong)
+        done = bad.ask()
+        hope(f"kept is {wrong!r}", (done.returncode, "it is not a line of a ledger" in done.stderr), (3, True))
+
+
 def what_radclient_would_change_is_told(_, folder):
     """An attribute without a Value, and one that radclient encrypts or splits, leave their record out: told, and 3."""
     room = Room(folder)
@@ -284,6 +313,23 @@ def what_a_proxy_left_is_sent(program, folder):
         hope("all", (done.returncode, done.stdout.count("#")), (0, 5))
 
 
+def what_a_proxy_keeps_is_left_out(program, folder):
+    """Of what a program with a spool left nothing is printed, but by --force."""
+    ledger = folder / "ledger"
+    ledger.mkdir()
+    given = {"limits": "window = 2\n", "variables": {"RAD_PROXY_LEDGER": str(ledger), "RAD_PROXY_SPOOL": str(folder / "spool")}}
+    with Stage(program, folder, **given) as stage:
+        for _ in range(6):
+            stage.nas.ask()
+        until("they are accepted", lambda: stage.say(b"state", 1)[0].split()[8] == "4")
+        hope("the end", stage.ends()[1:], ("end: queued 4 outstanding 2 untaken 0", 3))
+        files = [stage.proxy.file, *ledger.iterdir()]
+        done = subprocess.run([TOOL, "--outstanding", *files], capture_output=True, text=True)
+        hope("printed", (done.returncode, done.stdout, "the next run: 6 (" in done.stderr), (0, "", True))
+        done = subprocess.run([TOOL, "--outstanding", "--force", *files], capture_output=True, text=True)
+        hope("forced", (done.returncode, done.stdout.count("#"), "printed: 6" in done.stderr), (0, 6, True))
+
+
 def many_are_printed_in_time(_, folder):
     """A hundred thousand requests that were left take less than a minute."""
     room = Room(folder)
@@ -301,7 +347,7 @@ def many_are_printed_in_time(_, folder):
 
 TESTS = [
     queued_ones_are_printed, radclient_sends_what_came, a_delay_counts_from_the_acceptance, a_delay_has_the_seconds_that_are_over, what_was_answered_since_is_left_out,
-    a_record_left_twice_is_printed_once, what_radclient_would_change_is_told, one_home_server_at_a_time, what_is_wrong_is_told,
+    a_record_left_twice_is_printed_once, what_a_spool_has_is_left_out, what_a_proxy_keeps_is_left_out, what_radclient_would_change_is_told, one_home_server_at_a_time, what_is_wrong_is_told,
     a_line_is_named_whatever_is_wrong, many_are_printed_in_time, what_a_proxy_left_is_sent,
 ]
 

@@ -22,12 +22,14 @@ import tempfile
 from concurrent.futures import ThreadPoolExecutor
 from types import SimpleNamespace
 
-from tests.lib import TOP, hope, need, text, try_each, until
+from tests.lib import TOP, environment, hope, need, text, try_each, until
 from tests.lib.ledgers import chained
+from tests.lib.spool import segments
 from tests.lib.stand_ins import TEXT, Asking
 from tests.lib.tools.capturing import pcap
 from tests.lib.tools.running import TOOLS, want
 from tests.tools.ledger import CONFIG, Ledger, auditor_of
+from tests.tools.spool import asked, came, file_of
 from tests.tools.trial import Traffic, configuration
 from tools.controlling.bounds import NO_SERVICE
 
@@ -74,7 +76,9 @@ esac
 """
 # What is active and what is there before a script, and how each is called: of an upgrade, a first installation, a removal and a purge.
 UNITS = "rad_proxy.service", "rad_proxy@two.service", "rad_proxy-metrics.socket", "rad_proxy-metrics.service", "rad_proxy-heads.timer"
-THERE = "etc/rad_proxy/one.toml", "var/cache/rad_proxy/counters", "etc/systemd/system/a.wants/rad_proxy-heads.path", "var/lib/rad_proxy/kept"
+THERE = ("etc/rad_proxy/one.toml", "var/cache/rad_proxy/counters", "etc/systemd/system/a.wants/rad_proxy-heads.path", "var/lib/rad_proxy/kept",
+         "var/lib/rad_proxy_spool/rad_proxy/lock", "var/lib/rad_proxy_spool/rad_proxy-two/lock",
+         "var/lib/rad_proxy_spool/rad_proxy-two/0000000000000001.spool")
 SCRIPTS = ("postinst", "configure", "0.1"), ("postinst", "configure", ""), ("prerm", "remove"), ("postrm", "remove"), ("postrm", "purge")
 SECONDS, MOST_STEPS, AT_ONCE = 300, 60, 4
 # What a tool that was killed may leave beside its files, by the beginnings of the names.
@@ -353,6 +357,77 @@ def a_script_of_a_trial(stage):
     stop_at_each(stage.command("rad_trial", "--script", "script", str(config), str(capture)))
 
 
+# Each octet that is written to a disk and each wait for it are steps too. Whoever is killed at a write has written the first half.
+TO_DISK = """
+import os
+def stepping(name, call):
+    def called(descriptor, *its):
+        before = count
+        if name == "pwrite" and at == count + 1 and len(its[0]) > 1:
+            call(descriptor, its[0][:len(its[0]) // 2], *its[1:])
+        see("subprocess.Popen", ())
+        return call(descriptor, *its)
+    return called
+for name in ("pwrite", "fsync"):
+    setattr(os, name, stepping(name, getattr(os, name)))
+"""
+
+
+class Giving(Command):
+    """What gives up two of three requests of a spool, which another hand wrote and reads."""
+
+    def __init__(self, stage, ctl):
+        super().__init__(stage.room / "made", ctl, "spool", "drop", "1", "3", "--folder", stage.room / "made" / "spool", "-c", stage.config)
+        self.folder, self.environment = self.room / "spool", environment()
+        self.stopping = STOPPING.replace("sys.argv = sys.argv[3:]", TO_DISK + "sys.argv = sys.argv[3:]")
+
+    def begin(self):
+        shutil.rmtree(self.folder, ignore_errors=True)
+        self.folder.mkdir(0o700, parents=True)
+        for number in (1, 2, 3):
+            (self.folder / f"{number:016x}.spool").write_bytes(file_of(number, [came(asked(number, b"a.example", b"nas-secret"), number)]))
+
+    def run(self, at=0, how="no"):
+        words = [sys.executable, "-c", self.stopping, str(at), how, self.tool, *self.words]
+        return subprocess.run(words, env=self.environment, capture_output=True, timeout=SECONDS, stdin=subprocess.DEVNULL)
+
+    def open(self):
+        read = segments.spool_of(segments.in_folder(self.folder), 0, 0)
+        hope("damage", read.faults, [])
+        return [fields[6] for _, fields, _ in read.requests]
+
+    def names(self):
+        return sorted(file.name for file in self.folder.iterdir())
+
+
+def a_drop_of_a_spool(stage):
+    """Whoever is killed before a step, or after half of it, leaves each request open or both given up; the next one gives them up, or says that
+    they are not open. Where a step is refused, it says so in words, and nothing is given up and no segment is left, or all is done."""
+    with served(stage) as (asking, _):
+        giving = Giving(stage, asking.ctl.resolve())
+        giving.begin()
+        ran, before = giving.run(), giving.names()
+        need(ran.returncode == 0 and giving.open() == [2], ran.stderr.decode())
+        seen = set()
+        for at in range(1, MOST_STEPS):
+            giving.begin()
+            if giving.run(at, "kill").returncode != -signal.SIGKILL:
+                break
+            left = giving.open()
+            seen.add(tuple(left))
+            again = giving.run()
+            hope(f"killed at {at}: the next one", (again.returncode, giving.open()), (0 if left == [1, 2, 3] else 5, [2]))
+            need(left in ([1, 2, 3], [2]), f"killed at {at}: {left}")
+            giving.begin()
+            refused = giving.run(at, "fail")
+            need(b"Traceback" not in refused.stderr and (refused.returncode == 0) == (giving.open() == [2]), f"refused at {at}: {refused}")
+            need(refused.returncode == 0 or refused.stderr.startswith(b"rad_proxyctl: "), f"refused at {at}: {refused}")
+            hope(f"refused at {at}: what is left", set(giving.names()) - {"lock"},
+                 {name for name in before if name != "lock"} if refused.returncode == 0 else {f"{number:016x}.spool" for number in (1, 2, 3)})
+        need(10 < at < MOST_STEPS - 1, f"{at} steps")
+        hope("what is met", seen, {(1, 2, 3), (2,)})
+
+
 class Maintaining:
     """A script of the package with its words, over a system that is a folder."""
 
@@ -414,8 +489,23 @@ def scripts_of_the_package(stage):
             raise AssertionError(f"{name} {words}: {fault}") from None
 
 
+def a_purge_keeps_what_waits(stage):
+    """A purge takes a spool without segments away, and keeps one that has some, which it tells; a removal keeps both."""
+    room = stage.room / "purged"
+    room.mkdir()
+    spools = room / "var/lib/rad_proxy_spool"
+    for word, kept in (("remove", ["rad_proxy/lock", *(told := ["rad_proxy-two/0000000000000001.spool", "rad_proxy-two/lock"])]), ("purge", told)):
+        script = Maintaining(room, "postrm", word)
+        script.begin()
+        ran = script.run()
+        found = sorted(str(file.relative_to(spools)) for file in spools.rglob("*") if file.is_file())
+        said = f"rad-proxy: {spools}/rad_proxy-two stays, since it may have requests that are not answered: install rad-proxy again, or remove it\n"
+        hope(word, (ran.returncode, found, ran.stderr.decode()), (0, sorted(kept), said if word == "purge" else ""))
+        shutil.rmtree(room / "bin")
+
+
 TESTS = [a_conversion, a_script_of_a_trial, a_hand_out, an_import, an_index, queries_of_heads, questions, questions_to_nobody, numbers_in_a_file,
-         restarts, scripts_of_the_package]
+         restarts, a_drop_of_a_spool, a_purge_keeps_what_waits, scripts_of_the_package]
 
 
 def tried(test, program):

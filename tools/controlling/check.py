@@ -16,7 +16,8 @@ from .output import answer, tell
 from .paths import absolute
 from .processes import Process, bounded, found, given_environment
 
-VARIABLES = {"RAD_PROXY_LOG": "warn"}
+# What is told is of the configuration alone, and not of a spool.
+VARIABLES = {"RAD_PROXY_LOG": "warn", "RAD_PROXY_SPOOL": ""}
 CHECK_SECONDS = 600
 # A configuration has so many octets at most; its text is looked at so many times; and so many doubts are told one by one.
 MOST_OCTETS, MOST_LOOKS, MOST_TOLD = 1_048_576, 40, 50

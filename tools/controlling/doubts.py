@@ -33,7 +33,7 @@ def of_linger(linger):
     if 0 < linger < LEAST_LINGER:
         return f"a stop waits for answers for {linger} ms, which are no seconds"
     if linger > MOST_LINGER:
-        return f"beyond {MOST_LINGER} ms: TimeoutStopSec of the unit ends the service before, where it is 90"
+        return f"beyond {MOST_LINGER} ms: TimeoutStopSec of the unit ends the service before, where it is 110"
     return None
 
 

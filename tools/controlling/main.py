@@ -59,8 +59,14 @@ def trace(call):
     return follow(call)
 
 
+def spool(call):
+    from .spool import do
+
+    return do(call)
+
+
 DONE = {"state": ask, "drain": ask, "metrics": metrics, "top": top, "http": http, "probe": probe, "restart": restart, "check": check,
-        "trace": trace}
+        "trace": trace, "spool": spool}
 
 
 def begin():

@@ -24,3 +24,8 @@ def absolute(path):
 def configuration_of(instance):
     """The configuration of a service, by the name of its instance."""
     return f"{places.CONFIGURATIONS}/{instance or 'rad_proxy'}.toml"
+
+
+def spool_of(instance):
+    """The folder of the spool of a service, as the package has it."""
+    return f"{places.SPOOL}/rad_proxy-{instance}" if instance else f"{places.SPOOL}/rad_proxy"

@@ -1,4 +1,4 @@
-"""`restart`: drains the proxy, and restarts its service once all that was accepted is answered."""
+"""`restart`: drains the proxy, and restarts its service once all that was accepted is answered; or, with a spool, is on disk."""
 import fcntl
 import hashlib
 import os
@@ -11,12 +11,18 @@ from trial.faults import Fault, printable
 from . import bounds, places
 from .check import VARIABLES, checker
 from .holding import Holder
-from .lanes import lanes_of
+from .lanes import lanes_of, whole
 from .output import end_by, say, tell
 from .owner import Folder, ask, run
 from .processes import found, given_environment
 from .processes import run as run_command
 from .stops import Stopped, Stops
+
+
+UNKNOWN, NO_COUNTERS = "left: unknown, since the proxy does not answer", "left: unknown, since the proxy writes no counters"
+# The metrics of a spool that say whether a restart loses something; and those of lanes whose sum is what they have to answer.
+OPEN, UNSYNCED, FAILING, LOST = (f"rad_proxy_spool_{name}" for name in ("open_requests", "unsynced_requests", "failing", "lost_total"))
+HELD = "rad_proxy_queued{", "rad_proxy_outstanding{"
 
 
 class Refused(Fault):
@@ -52,6 +58,28 @@ def take_lock(folder):
     return descriptor
 
 
+class Kept:
+    """What the counters say of the spool: how many requests are open, how many of these are not on disk, and whether the disk fails. What found
+    no room in the spool is not open there: it is what the lanes have beyond that."""
+
+    def __init__(self, numbers, held):
+        self.open, self.unsynced, self.fails = (numbers.get(name, 0) for name in (OPEN, UNSYNCED, FAILING))
+        if numbers.get(LOST, 0):
+            self.unsynced = max(self.unsynced, held - self.open)
+            self.open = max(self.open, held)
+
+
+def kept_of(lines):
+    """What the lines of the metrics say of the spool, or None: there is none."""
+    pairs = [line.rpartition(" ") for line in lines if line.startswith(("rad_proxy_spool_", *HELD))]
+    numbers = {name: whole(value) for name, _, value in pairs}
+    return Kept(numbers, sum(value for name, value in numbers.items() if name.startswith(HELD))) if UNSYNCED in numbers else None
+
+
+def accepted_by(lanes):
+    return sum(lane.accepted for lane in lanes)
+
+
 def slow_lanes(before, now, seconds, wait):
     """The lanes that have more queued and outstanding than they answer in the seconds to wait, by what they answered in these seconds."""
     answered = {lane.number: lane.answered for lane in before}
@@ -65,7 +93,7 @@ class Restart:
     def __init__(self, call):
         self.call, self.folder = call, call.folder
         self.way = os.environ.get("RAD_PROXY_RESTART")
-        self.stops = Stops()
+        self.stops, self.has_spool, self.kept = Stops(), False, None
 
     def find_way(self):
         """Minds that there is a way to restart what serves in the folder, before anything is drained."""
@@ -100,8 +128,40 @@ class Restart:
         except (Fault, OSError):
             return None
 
+    def look_at_spool(self):
+        """What the counters that the proxy writes next say of its spool; None where it has none, or writes no counters."""
+        lines, status = ask(self.folder, "metrics")
+        return kept_of(lines) if status == 0 else None
+
+    def find_spool(self):
+        """Whether the proxy has a spool. A restart that is forced goes on without an answer."""
+        try:
+            return self.look_at_spool() is not None
+        except (Fault, OSError):
+            if not self.call.is_forced:
+                raise
+            return False
+
+    def look_until_kept(self):
+        """Looks once a second until all that is open is on disk, or what is not may have come since the look before and the disk does not
+        fail. Refuses where that is not so for RATE_SECONDS."""
+        until, came = time.monotonic() + bounds.RATE_SECONDS, 0
+        kept, lanes = self.look_at_spool(), self.look()
+        while kept is not None and kept.unsynced and (kept.fails or kept.unsynced > came):
+            if time.monotonic() >= until:
+                raise Refused([], f"{kept.unsynced} of {kept.open} open requests are not on disk")
+            time.sleep(1)
+            before = accepted_by(lanes)
+            kept, lanes = self.look_at_spool(), self.look()
+            came = accepted_by(lanes) - before
+        if kept is None:
+            raise Refused([], "the counters say nothing of the spool any more")
+
     def look_for_down(self):
-        """The lanes. Refuses where a home server is down."""
+        """The lanes. Refuses where a home server is down and there is no spool."""
+        if self.has_spool:
+            self.look_until_kept()
+            return []
         lanes = self.look()
         down = [lane for lane in lanes if lane.watch == "down"]
         if down:
@@ -117,6 +177,13 @@ class Restart:
             raise
 
     def look_ahead(self):
+        """Refuses where a restart would lose something: with a spool what is open and not on disk."""
+        if self.has_spool:
+            self.look_until_kept()
+        else:
+            self.look_at_rate()
+
+    def look_at_rate(self):
         """Looks twice, a second apart, and refuses where a restart would leave something. Where anything is queued or outstanding in the
         second look, the rate counts: one second's suffices, and nothing is refused before RATE_SECONDS have been seen."""
         first = last = self.look_for_down()
@@ -167,22 +234,33 @@ class Restart:
                 self.stops.wait()
                 out.end()
 
+    def left_of(self, lanes):
+        """The lines of what is waited for, and of these the ones of what a restart loses. With a spool that is what is not on disk; and what
+        is outstanding at a home server that is up is waited for, since it would be sent again."""
+        if not self.has_spool:
+            left = [f"left: {lane.home} queued {lane.queued} outstanding {lane.outstanding}" for lane in lanes if lane.mode != "done"]
+            return left, left
+        self.kept = self.look_at_spool()
+        lost = [NO_COUNTERS] if self.kept is None else [f"left: {self.kept.unsynced} not on disk"] if self.kept.unsynced else []
+        return lost + [f"left: {lane.home} outstanding {lane.outstanding}" for lane in lanes if lane.outstanding and lane.watch == "up"], lost
+
     def await_lanes(self):
-        """Waits until each lane is done, and says once a second what is left: the lines of that, when the time is over. Where no answer
+        """Waits until nothing is left, and says once a second what is: the lines of what is lost, when the time is over. Where no answer
         comes, all is left that was there before."""
-        until, left = time.monotonic() + self.call.wait, ["left: unknown, since the proxy does not answer"]
+        until, left, lost = time.monotonic() + self.call.wait, [UNKNOWN], [UNKNOWN]
         while True:
-            lanes = None
             try:
                 lanes = self.look()
+                is_replaced = any(lane.mode == "open" for lane in lanes)
+                if not is_replaced:
+                    left, lost = self.left_of(lanes)
             except (Fault, OSError) as fault:
+                is_replaced = False
                 tell(f"rad_proxyctl: {printable(str(fault))}")
-            if lanes is not None:
-                if any(lane.mode == "open" for lane in lanes):
-                    raise Fault("another one has restarted it: nothing more was done")
-                left = [f"left: {lane.home} queued {lane.queued} outstanding {lane.outstanding}" for lane in lanes if lane.mode != "done"]
+            if is_replaced:
+                raise Fault("another one has restarted it: nothing more was done")
             if not left or time.monotonic() >= until:
-                return left
+                return lost
             say("\n".join(left))
             time.sleep(1)
 
@@ -205,6 +283,8 @@ class Restart:
         try:
             self.stops.go_on()
             left = self.await_lanes()
+            if self.kept is not None:
+                say(f"on disk: {self.kept.open - self.kept.unsynced}")
             self.stops.wait()
             self.replace()
         except Stopped:
@@ -226,11 +306,13 @@ class Restart:
             self.check_configuration()
             lock = take_lock(self.folder)
             self.stops.catch()
+            self.has_spool = self.find_spool()
             if not self.call.is_forced:
                 self.look_ahead()
             self.go_out()
         except Refused as it:
-            tell("\n".join(lane.line for lane in it.lanes))
+            if it.lanes:
+                tell("\n".join(lane.line for lane in it.lanes))
             raise
         except Stopped as it:
             end_by(signal.Signals(it.number).name)

@@ -14,7 +14,7 @@ ROWS = 10
 # The last texts of which the times of answers are kept, so that a table has those of ten seconds.
 KEPT = 11
 CLEAR = "\033[H\033[2J"
-DROPS = re.compile(r"(dropped|refused|unheard|send_faults|receive_faults|socket_drops|ledger_dropped|ledger_lost)_total")
+DROPS = re.compile(r"(dropped|refused|unheard|send_faults|receive_faults|socket_drops|ledger_dropped|ledger_lost|spool_lost|spool_faults)_total")
 BUCKET = re.compile(r'reply_seconds_bucket\{lane="([0-9]{1,2})",home="[^"]*",le="([^"]*)"', re.ASCII)
 FIRST_LABEL = re.compile(r'[^"]*"([^"]*)"')
 SECOND_LABEL = re.compile(r'[^"]*"[^"]*"[^"]*"([^"]*)"')
@@ -134,6 +134,14 @@ class Table:
                                          for name in ("repeats", "refused", "dropped"))
             self.lines.append(f"{client:<16} {rate:7.1f} {ones[0]:7.1f} {repeats:7.1f} {ones[1]:7.1f} {refused:7.1f} {dropped:7.1f}")
 
+    def add_spool(self):
+        """What is open in the spool, if there is one."""
+        get = lambda name: self.now.get(f"spool_{name}")
+        if "spool_open_requests" in self.now.values:
+            self.lines.append(f"\nSPOOL  {int(get('open_requests'))} open, {int(get('unsynced_requests'))} not on disk, the oldest "
+                              f"{span(get('oldest_seconds'))} old, {int(get('dropped_requests'))} dropped, {get('bytes') / 2**20:.1f} MiB"
+                              f"{', not written' if get('failing') else ''}")
+
     def add_drops(self):
         """What is dropped, refused or fails now, by its reason."""
         self.lines.append("\nDROPS AND FAULTS a second")
@@ -146,6 +154,7 @@ class Table:
         self.lines = [f"rad_proxy {self.now.version}, running for {up}\n"]
         self.add_homes()
         self.add_clients()
+        self.add_spool()
         self.add_drops()
         return "".join(f"{line}\n" for line in self.lines)
 

@@ -14,6 +14,9 @@ usage: rad_proxyctl [-i NAME | -d DIR] state | drain | top | metrics [FILE] | ht
        rad_proxyctl [-i NAME | -d DIR] restart [-c CONFIG] [--wait SECONDS] [--out SECONDS] [--force]
        rad_proxyctl [-i NAME] check [--strict] [--rate N] [FILE]
        rad_proxyctl [-i NAME | -d DIR] trace [--user NAME | --session ID | --client ADDRESS] [--seconds SECONDS]
+       rad_proxyctl [-i NAME] spool [--folder DIR] [-c CONFIG]
+       rad_proxyctl [-i NAME] spool list | export | drop [ARRIVAL ..] [--home NAME] [--client ADDRESS] [--dropped REASON]
+       rad_proxyctl [-i NAME] spool export .. [--keep-delay] [--source ADDRESS] | drop .. [--because TEXT]
        rad_proxyctl --help | --version
 """
 HELP = """
@@ -28,11 +31,15 @@ Asks a rad_proxy that runs as a service.
   restart         drains, waits until all is answered, and restarts the service
   check [FILE]    prints each fault of a configuration, what is doubtful in it, and what its numbers carry
   trace           prints the lines of the log about a user, a session or a client
+  spool           prints how many requests wait on disk for each home server, also while the service is stopped
+  spool list      prints each of them; those of these numbers, this home server, client or reason alone
+  spool export    prints them for radclient
+  spool drop      gives them up, while the service is stopped
 
   -i NAME         the service rad_proxy@NAME, in place of rad_proxy
   -d DIR          the service whose fifos are in DIR
   -s ADDRESS:PORT the proxy that is probed, in place of `listen' of the configuration
-  --home NAME     the home server of the configuration that is probed, in place of a proxy
+  --home NAME     the home server of the configuration that is probed, in place of a proxy; whose requests are meant
   -c CONFIG       the configuration, in place of {config}
   --timeout S     how long an answer is waited for, in seconds; default {probe}
   --wait S        how long a restart waits for the answers after the drain; default {drain}
@@ -41,15 +48,24 @@ Asks a rad_proxy that runs as a service.
   --force         restarts though a home server is down, or a queue too long
   --strict        ends with {doubtful} where the check has a warning and no fault
   --rate N        the requests a second to each home server that the check counts with
+  --folder DIR    the folder of the spool, in place of that of the service
+  --keep-delay    exports Acct-Delay-Time as it came
+  --source A      the address that radclient sends from
+  --because TEXT  the reason that is written beside what is dropped
 
 rad_proxyctl(8) has the rest.
 """
-COMMANDS = ("state", "drain", "top", "metrics", "http", "probe", "restart", "check", "trace")
+COMMANDS = ("state", "drain", "top", "metrics", "http", "probe", "restart", "check", "trace", "spool")
 # The options of each command that have a value, and those that have none. Some take their value behind `=` too.
 VALUES = {"": ("-i", "-d"), "probe": ("-s", "--home", "-c", "--timeout"), "restart": ("-c", "--wait", "--out"),
-          "check": ("--rate",), "trace": ("--user", "--session", "--client", "--seconds")}
-FLAGS = {"restart": ("--force",), "check": ("--strict",)}
+          "check": ("--rate",), "trace": ("--user", "--session", "--client", "--seconds"),
+          "spool": ("--home", "--client", "--dropped", "--folder", "-c", "--source", "--because")}
+FLAGS = {"restart": ("--force",), "check": ("--strict",), "spool": ("--keep-delay",)}
+# What is done with a spool, and the reasons for which the program drops a request.
+SPOOL = ("list", "export", "drop")
+REASONS = ("UnknownClient", "Unread", "WrongCode", "BadAuthenticator", "BadMessageAuthenticator", "MessageAuthenticatorHere", "NoRealm")
 DIGITS = frozenset("0123456789")
+MOST_OF_REASON = 255
 
 
 class Misused(Exception):
@@ -66,6 +82,8 @@ class Call:
         self.config, self.wanted = configuration_of(""), []
         self.wait, self.out, self.rate = bounds.DRAIN_SECONDS, 0, 0
         self.is_forced = self.is_strict = self.is_named = False
+        self.instance = self.what = self.spool = self.client = self.dropped = self.source = ""
+        self.numbers, self.because, self.keeps_delay = set(), b"", False
 
 
 def are_digits(text, most):
@@ -86,12 +104,33 @@ def are_seconds(text):
     return are_digits(before, 6) and (not point or are_digits(behind, 3)) and bool(text.strip("0."))
 
 
+def take_of_spool(call, option, value):
+    """Takes an option of `spool` in that has a value."""
+    if option in ("--client", "--source"):
+        from trial.settings import ADDRESS
+
+        if not ADDRESS.fullmatch(value):
+            raise Misused
+    if option == "--dropped" and value not in REASONS or len(os.fsencode(value)) > MOST_OF_REASON and option == "--because":
+        raise Misused
+    if option == "--folder":
+        call.spool = absolute(value)
+    elif option == "--because":
+        call.because = os.fsencode(value)
+    else:
+        setattr(call, option[2:], value)
+
+
 def take_value(call, option, value):
     """Takes an option in that has a value."""
     if not value:
         raise Misused
+    if call.word == "spool" and option != "-c":
+        take_of_spool(call, option, value)
+        return
     if option == "-i":
         call.folder, call.unit, call.config = f"{places.RUN}/rad_proxy-{value}", f"rad_proxy@{value}", configuration_of(value)
+        call.instance = value
     elif option == "-d":
         call.folder, call.unit = absolute(value), ""
     elif option == "-s":
@@ -128,6 +167,8 @@ def take_flag(call, word):
         call.is_forced = True
     elif word == "--strict":
         call.is_strict = True
+    elif word == "--keep-delay":
+        call.keeps_delay = True
 
 
 def take_other(call, word):
@@ -138,6 +179,10 @@ def take_other(call, word):
         call.is_named, call.config = True, absolute(word)
     elif call.word == "metrics" and word and not call.file:
         call.file = absolute(word)
+    elif call.word == "spool" and not call.what and word in SPOOL:
+        call.what = word
+    elif call.what and are_digits(word, 20):
+        call.numbers.add(int(word))
     elif call.word or word != "--":
         raise Misused
 
@@ -163,9 +208,19 @@ def read_words(call, words):
             take_flag(call, word)
         else:
             take_other(call, word)
-    if not call.word or call.word == "trace" and not call.wanted or call.server and call.home:
+    if not call.word or call.word == "trace" and not call.wanted or call.server and call.home or is_spool_misused(call):
         raise Misused
     return None
+
+
+def is_spool_misused(call):
+    """Whether what is said of a spool does not belong together: what is to be given up has to be named."""
+    has_some = bool(call.numbers or call.home or call.client or call.dropped)
+    if call.word != "spool":
+        return False
+    if call.what != "export" and (call.keeps_delay or call.source) or call.what != "drop" and call.because:
+        return True
+    return has_some != (call.what == "drop") and (call.what in ("", "drop"))
 
 
 def help_text():

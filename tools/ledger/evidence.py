@@ -1,5 +1,5 @@
 """What the lines of a ledger say besides the rows of rad_audit: the Acct-Delay-Time of their packets (RFC 2866 section 5.2), when a request
-was accepted and how often it was sent, and what became of a response."""
+was accepted, how often it was sent and whether a spool has it, and what became of a response."""
 import json
 import re
 from array import array
@@ -12,22 +12,24 @@ from .sources import lines_in
 
 PACKET = re.compile(rb'"(?:sent|request)"\s*:\s*"([0-9a-fA-F]*)"')
 ACCEPTED, SENDINGS = re.compile(rb'"accepted"\s*:\s*"([0-9TZ:.-]+)"'), re.compile(rb'"sendings"\s*:\s*(\d+)')
+KEPT = re.compile(rb'"kept"\s*:\s*true')
 COUNTED = re.compile(rb'"type"\s*:\s*"(unsent|again)"')
 ACCT_DELAY_TIME, HEADER, OCTETS = 41, 20, 4
 
 
 class Said(NamedTuple):
-    """What a line says of its record: each is None where it does not."""
+    """What a line says of its record: each is None where it does not; `kept` is 1 where the line says so."""
 
     delay: int | None = None
     accepted: str | None = None
     sendings: str | None = None
+    kept: int | None = None
 
 
 def said_in(line):
     """What a line says."""
-    accepted, sendings = ACCEPTED.search(line), SENDINGS.search(line)
-    return Said(delay_in(line), accepted and accepted[1].decode(), sendings and sendings[1].decode())
+    accepted, sendings, kept = ACCEPTED.search(line), SENDINGS.search(line), 1 if KEPT.search(line) else None
+    return Said(delay_in(line), accepted and accepted[1].decode(), sendings and sendings[1].decode(), kept)
 
 
 def delay_in(line):

@@ -102,6 +102,8 @@ def paragraph(row, place, told, said, counts):
     yield f"  came from {row.client} port {row.port} with Identifier {row.identifier}"
     yield f"  record {row.record} of lane {row.lane}, home server {row.home}, run {row.run}"
     yield f"  {state_of(row)}"
+    if said.kept:
+        yield "  the spool has it, and offers it to the next run"
     if said.accepted is not None or said.sendings is not None:
         yield "  " + ", ".join([*([f"accepted at {said.accepted}"] if said.accepted else []), *([f"sent {times(said.sendings)}"] if said.sendings else [])])
     for kind, what in (("unsent", "the response could not be sent"), ("again", "the client repeated its request, and was sent the response again")):

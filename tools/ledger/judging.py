@@ -18,20 +18,20 @@ from .evidence import Said, counts_of, said_in
 from .rows import Row
 from .sources import lines_in
 
-FORM, AT_ONCE, MASK = "rad_ledger index 2", 1 << 20, 0o077
+FORM, AT_ONCE, MASK = "rad_ledger index 3", 1 << 20, 0o077
 # The places of a row, and the other words of it, as rad_audit prints them.
 WORDS = Row._fields[2:]
 SCHEMA = f"""
 CREATE TABLE facts (name PRIMARY KEY, value);
 CREATE TABLE files (number INTEGER PRIMARY KEY, path, mark, sum);
-CREATE TABLE entries (file INTEGER, line INTEGER, {", ".join(WORDS)}, judged INTEGER, delay INTEGER, accepted, sendings,
+CREATE TABLE entries (file INTEGER, line INTEGER, {", ".join(WORDS)}, judged INTEGER, delay INTEGER, accepted, sendings, kept INTEGER,
   PRIMARY KEY (file, line)) WITHOUT ROWID;
 CREATE TABLE counts (run, lane, record, kind, count, PRIMARY KEY (run, lane, record, kind)) WITHOUT ROWID;
 CREATE TABLE wrong (file INTEGER, line INTEGER, told, PRIMARY KEY (file, line)) WITHOUT ROWID;
 """
 INDEXES = "CREATE INDEX sessions ON entries (session); CREATE INDEX users ON entries (user);"
 KEEP = f"""
-INSERT INTO entries VALUES ({", ".join("?" * (len(WORDS) + 3))}, NULL, NULL, NULL) ON CONFLICT (file, line)
+INSERT INTO entries VALUES ({", ".join("?" * (len(WORDS) + 3))}, NULL, NULL, NULL, NULL) ON CONFLICT (file, line)
 DO UPDATE SET judged = excluded.judged WHERE excluded.judged > judged
 """
 # A line that is wrong under one configuration is right if it was judged by another one that has its home server and its client.
@@ -225,8 +225,8 @@ class Judgement:
 
     def keep_said(self, number, source):
         found = ((*said_in(line), number, at) for at, line in enumerate(lines_in(source.octets(lambda _: None)), 1))
-        given = (it for it in found if it[:3] != (None, None, None))
-        self.database.executemany("UPDATE entries SET delay = ?, accepted = ?, sendings = ? WHERE file = ? AND line = ?", given)
+        given = (it for it in found if it[: len(Said._fields)] != Said())
+        self.database.executemany("UPDATE entries SET delay = ?, accepted = ?, sendings = ?, kept = ? WHERE file = ? AND line = ?", given)
 
     def keep_counts(self):
         counts = counts_of(self.sources).items()
@@ -248,7 +248,7 @@ class Judgement:
     def said(self, places):
         """What the line at each of these places says besides its row."""
         for place in places:
-            yield Said(*self.database.execute("SELECT delay, accepted, sendings FROM entries WHERE file = ? AND line = ?", place).fetchone())
+            yield Said(*self.database.execute("SELECT delay, accepted, sendings, kept FROM entries WHERE file = ? AND line = ?", place).fetchone())
 
     def counts(self, records):
         """How often the responses of these records could not be sent, and were sent again."""

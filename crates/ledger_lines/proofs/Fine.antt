@@ -14,6 +14,7 @@ use Rattle.ledger_lines.specs.declared.end.LaneCount.{LaneCount}
 use Rattle.ledger_lines.specs.declared.lane_start.LaneStart.{LaneStart}
 use Rattle.ledger_lines.specs.declared.record_count.CountKind.{CountKind}
 use Rattle.json_objects.specs.Written.{number_value, object_of}
+use Rattle.ledger_lines.specs.Lines.{truth_if}
 use Rattle.ledger_lines.specs.Written.{begin_slots, begin_value, count_slots, count_value, digits_if_any, end_slots, end_value, entry_slots, entry_value, file_slots, file_value, lane_slots, left_slots, left_value, octets_value, packet_slots, record_count_slots, record_count_value, request_slots, start_slots, start_value, state_slots, sum_slot, text_if_any, words_slots}
 use Rattle.json_objects.proofs.Fine.{AreFine, IsFine, MayBeFine, deeper, fine_array, fine_both, fine_object}
 
@@ -49,6 +50,10 @@ fine_end_summed end sum =
 any_text : (most : ℕ) (its : Option (List ℕ)) → MayBeFine most (option_map string its)
 any_text most None = tt
 any_text most (Some text) = (omega arith, tt)
+
+any_truth : (most : ℕ) (holds : Bool) → MayBeFine most (truth_if holds)
+any_truth most true = (omega arith, tt)
+any_truth most false = tt
 
 either_fine : (most : ℕ) (t : Bool) (o p : Option Json) → MayBeFine most o → MayBeFine most p → MayBeFine most (cond t o p)
 either_fine most true o p f g = f
@@ -134,7 +139,7 @@ fine_entry_summed e sum =
 
 left_fine : (left : Left) → AreFine 0 (left_slots left)
 left_fine left =
-    let states : AreFine 0 (state_slots left) = (plain, (any_number 0 left.sendings, (any_text 0 (option_copied left.accepted), (plain, tt)))) in
+    let states : AreFine 0 (state_slots left) = (plain, (any_number 0 left.sendings, (any_text 0 (option_copied left.accepted), (plain, (any_truth 0 left.kept, tt))))) in
     let behind = fine_both 0 (request_slots left.about) (state_slots left) (fine_request left.about) states in
     fine_both 0 (lane_slots (codes "left") left.about) (request_slots left.about ++ state_slots left) (fine_lane (codes "left") left.about) behind
 

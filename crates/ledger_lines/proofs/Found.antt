@@ -1,11 +1,11 @@
 -- What a value shows of what stands at a key of an object.
-use Rattle.std.proofs.Common.{◌≡◌, ℕ, ◌<◌, ◌≤◌, ◌^◌, List, length, get_or, codes, Option, Some, None, MatchOption, IfSome, Ok, ok_or, refl, sym, ap, ◌∙◌, subst, arith}
+use Rattle.std.proofs.Common.{◌≡◌, ℕ, ◌<◌, ◌≤◌, ◌^◌, List, length, get_or, codes, Bool, true, false, Option, Some, None, MatchOption, IfSome, Ok, ok_or, refl, sym, ap, ◌∙◌, subst, arith}
 use Rattle.std.specs.Prelude.{⊤}
 use Rattle.std.specs.Str.Parse.{IsNumeral, digits_value, without_leading_plus, ParsesUnsigned}
 use Rattle.json.specs.Json.{Json, Items, null, boolean, number, string, array, object}
-use Rattle.json.specs.Find.{get, as_str, as_number}
+use Rattle.json.specs.Find.{get, as_bool, as_str, as_number}
 use Rattle.hex.specs.Hex.{decode_of}
-use Rattle.ledger_lines.specs.Lines.{Denies, HasText, HasNumber, HasOctets, as_items}
+use Rattle.ledger_lines.specs.Lines.{Denies, HasText, HasNumber, HasOctets, HasTruth, as_items}
 use Rattle.ledger_lines.specs.declared.faults.LineFault.{LineFault}
 use Rattle.ledger_lines.proofs.Lines.{denied, differ}
 use Rattle.ledger_lines.proofs.Pairs.{DigitsRead}
@@ -40,6 +40,14 @@ items_by (string s) items e = absurd (differ None items refl e)
 items_by (array js) items e = ap array (same_some js items e)
 items_by (object ms) items e = absurd (differ None items refl e)
 
+truth_of : (j : Json) (b : Bool) → as_bool j ≡ Some b → j ≡ boolean b
+truth_of null b e = absurd (differ None b refl e)
+truth_of (boolean c) b e = ap boolean (same_some c b e)
+truth_of (number s) b e = absurd (differ None b refl e)
+truth_of (string s) b e = absurd (differ None b refl e)
+truth_of (array js) b e = absurd (differ None b refl e)
+truth_of (object ms) b e = absurd (differ None b refl e)
+
 module _ (key : List ℕ) (value : Json) where
   abbrev pub TextThere : Type 0
   TextThere = (t : List ℕ) × HasText key value t
@@ -49,6 +57,26 @@ module _ (key : List ℕ) (value : Json) where
 
   abbrev pub OctetsThere : Type 0
   OctetsThere = (octets : List ℕ) × HasOctets key value octets
+
+  abbrev pub TruthThere : Type 0
+  TruthThere = (holds : Bool) × HasTruth key value holds
+
+  -- what may hold or not
+  pub nothing_found : None ≡ get key value → HasTruth key value false
+  nothing_found e = sym e
+
+  pub truth_found : (found : Json) → Some found ≡ get key value → Some true ≡ as_bool found → HasTruth key value true
+  truth_found found e s = sym e ∙ ap Some (truth_of found true (sym s))
+
+  truth_denied : (found : Json) → Some found ≡ get key value → ¬ (as_bool found ≡ Some true) → ¬ TruthThere
+  truth_denied found e n (true, h) = n (ap as_bool (same_some found (boolean true) (e ∙ h)))
+  truth_denied found e n (false, h) = differ (get key value) found (sym h) (sym e)
+
+  pub no_truth : (found : Json) → Some found ≡ get key value → None ≡ as_bool found → ¬ TruthThere
+  no_truth found e s = truth_denied found e (λ t. differ (as_bool found) true s t)
+
+  pub untrue : (found : Json) → Some found ≡ get key value → Some false ≡ as_bool found → ¬ TruthThere
+  untrue found e s = truth_denied found e (λ t. cc)
 
   -- texts
   pub text_found : (found : Json) (t : List ℕ) → Some found ≡ get key value → Some t ≡ as_str found → HasText key value t

@@ -1,5 +1,5 @@
 -- A value is one line at most, and so are octets.
-use Rattle.std.proofs.Common.{◌≡◌, ℕ, ◌^◌, List, [], ◌∷◌, codes, get_or, length, Option, Some, None, Result, Ok, Err, inl, inr, refl, sym, ap, ◌∙◌, subst, arith}
+use Rattle.std.proofs.Common.{◌≡◌, ℕ, ◌^◌, List, [], ◌∷◌, codes, get_or, length, Bool, true, false, Option, Some, None, Result, Ok, Err, inl, inr, refl, sym, ap, ◌∙◌, subst, arith}
 use Rattle.std.specs.Prelude.{option_copied}
 use Rattle.std.specs.List.{AllZip, each_same}
 use Rattle.std.specs.Int.{w64, from_be_bytes}
@@ -24,7 +24,7 @@ use Rattle.ledger_lines.specs.declared.hidden.Hidden.{Hidden}
 use Rattle.ledger_lines.specs.declared.hidden.HiddenKind.{HiddenKind}
 use Rattle.ledger_lines.specs.declared.hidden.HiddenKind.TheVariants.{Entry as AnEntry, Left as ALeft, Unsent as AnUnsent, Again as AnAgain}
 use Rattle.ledger_lines.specs.declared.reading.Line.TheVariants.{Begin as begins, Entry as enters, Left as leaves, Unsent as unsends, Again as repeats, End as ends, Hidden as hides}
-use Rattle.ledger_lines.specs.Lines.{AreEach, HasArray, HasClient, HasLanes, HasOctets, HasRun, HasState, HasTime, IsAbout, IsBegin, IsEnd, IsEntry, IsFileBefore, IsLaneCount, IsLaneStart, IsLeft, IsHidden, IsLine, IsLineOf, IsRecordCount, MayHaveFile, MayHaveKind, kind_text, MayHaveNumber, MayHaveSum, MayHaveTime, MayHaveWords, as_items, state_text}
+use Rattle.ledger_lines.specs.Lines.{AreEach, HasArray, HasClient, HasLanes, HasOctets, HasRun, HasState, HasTime, HasTruth, IsAbout, IsBegin, IsEnd, IsEntry, IsFileBefore, IsLaneCount, IsLaneStart, IsLeft, IsHidden, IsLine, IsLineOf, IsRecordCount, MayHaveFile, MayHaveKind, kind_text, MayHaveNumber, MayHaveSum, MayHaveTime, MayHaveWords, as_items, state_text, truth_if}
 use Rattle.ledger_lines.specs.Same.{GivesBack, IsAnswer, IsSameBegin, IsSameCount, IsSameEnd, IsSameSummed, IsSameEntry, IsSameFile, IsSameFileIfAny, IsSameLeft, IsSameLine, IsSameRequest, IsSameStart}
 use Rattle.ledger_lines.proofs.Found.{one_number, one_text, same_some, unlike}
 
@@ -57,6 +57,14 @@ module _ (key : List ℕ) (value : Json) where
   time_if_any None None h i = refl
   time_if_any (Some t) (Some u) h i = ap Some (one_time t u h i)
   time_if_any t u h i = cc
+
+truth_by : (s t : Bool) → truth_if s ≡ truth_if t → s ≡ t
+truth_by true true e = refl
+truth_by false false e = refl
+truth_by s t e = cc
+
+one_truth : (key : List ℕ) (value : Json) (s t : Bool) → HasTruth key value s → HasTruth key value t → s ≡ t
+one_truth key value s t h i = truth_by s t (sym h ∙ i)
 
 words_if_any : (key other : List ℕ) (value : Json) (xs ys : Option (List ℕ)) → MayHaveWords key other value xs → MayHaveWords key other value ys → xs ≡ ys
 words_if_any key other value None None h i = refl
@@ -122,6 +130,7 @@ one_left value one another h i = record {
   sendings = number_if_any (codes "sendings") value (2 ^ 32) one.sendings another.sendings h.sendings i.sendings;
   accepted = time_if_any (codes "accepted") value (option_copied one.accepted) (option_copied another.accepted) h.accepted i.accepted;
   request = one_octets (codes "request") value one.request.now another.request.now h.request i.request;
+  kept = one_truth (codes "kept") value one.kept another.kept h.kept i.kept;
 }
 
 -- ---- lists

@@ -32,7 +32,7 @@ use Rattle.ledger_lines.specs.declared.reading.Line.{Line}
 use Rattle.ledger_lines.specs.declared.reading.Line.TheVariants.{Begin as begins, Entry as enters, Left as leaves, End as ends}
 use Rattle.ledger_lines.specs.declared.record_count.CountKind.{CountKind}
 use Rattle.ledger_lines.specs.declared.record_count.CountKind.TheVariants.{Again, Unsent}
-use Rattle.ledger_lines.specs.Lines.{IsLine, IsLineOf}
+use Rattle.ledger_lines.specs.Lines.{IsLine, IsLineOf, truth_if}
 use Rattle.ledger_lines.specs.Written.{IsBelowIfAny, IsReadableBegin, IsReadableCount, IsReadableEnd, IsReadableEntry, IsReadableFileIfAny, IsReadableLeft, IsReadableRecordCount, IsReadableRequest, IsReadableStart, IsSum, IsSummedAs, begin_slots, begin_value, count_slots, count_value, counted_as, digits_if_any, end_slots, end_value, entry_slots, entry_value, file_slots, file_value, kind_name, lane_slots, left_slots, left_value, octets_value, packet_slots, record_count_slots, record_count_value, request_slots, start_slots, start_value, state_slots, sum_slot, sum_text, text_if_any, words_slots}
 use Rattle.ledger_lines.proofs.Fine.{fine_begin_summed, fine_end_summed, fine_entry_summed, fine_left_summed, fine_record_count_summed}
 use Rattle.ledger_lines.proofs.Told.{array_there, begin_read, end_read, entry_read, left_read, record_count_read, summed}
@@ -146,6 +146,10 @@ any_text : (its : Option (List ℕ)) → MayBeNumbered (option_map string its)
 any_text None = tt
 any_text (Some text) = tt
 
+any_truth : (holds : Bool) → MayBeNumbered (truth_if holds)
+any_truth true = tt
+any_truth false = tt
+
 either : (t : Bool) (o p : Option Json) → MayBeNumbered o → MayBeNumbered p → MayBeNumbered (cond t o p)
 either true o p f g = f
 either false o p f g = g
@@ -203,7 +207,7 @@ entry_numbered e h =
 
 left_numbered : (left : Left) → IsReadableLeft left → AreNumbered (left_slots left)
 left_numbered left h =
-    let states : AreNumbered (state_slots left) = (tt, (any_number (2 ^ 32) left.sendings (omega arith) h.sendings, (any_text (option_copied left.accepted), (tt, tt)))) in
+    let states : AreNumbered (state_slots left) = (tt, (any_number (2 ^ 32) left.sendings (omega arith) h.sendings, (any_text (option_copied left.accepted), (tt, (any_truth left.kept, tt))))) in
     let behind = numbered_both (request_slots left.about) (state_slots left) (request_numbered left.about h.about) states in
     numbered_both (lane_slots (codes "left") left.about) (request_slots left.about ++ state_slots left) (lane_numbered (codes "left") left.about h.about) behind
 

@@ -221,6 +221,7 @@ left_read left sum h =
       sendings = number_if_there (codes "sendings") (2 ^ 32) value left.sendings (at (codes "sendings")) (omega arith) h.sendings;
       accepted = time_if_there (codes "accepted") value (option_copied left.accepted) (at (codes "accepted")) h.accepted;
       request = octets_there (codes "request") value left.request.now (at (codes "request")) h.request;
+      kept = at (codes "kept");
     }
 
 -- ---- a line that counts what became of the response of a record

@@ -1,5 +1,5 @@
 -- Lines of a ledger (RFC 8259, RFC 3339, own): objects of JSON, with their keys in any order, each once.
-use Rattle.std.specs.Prelude.{◌≡◌, ℕ, ◌<◌, ◌≤◌, ◌*◌, ◌^◌, List, [], ◌∷◌, length, get_or, codes, Bool, option_copied, IsTrue, cond, ◌==◌, Option, Some, None, Ok, ◌⊎◌, is_some, ⊤}
+use Rattle.std.specs.Prelude.{◌≡◌, ℕ, ◌<◌, ◌≤◌, ◌*◌, ◌^◌, List, [], ◌∷◌, length, get_or, codes, Bool, true, false, option_copied, IsTrue, cond, ◌==◌, Option, Some, None, Ok, ◌⊎◌, is_some, ⊤}
 use Rattle.std.specs.List.{All, Contains}
 use Rattle.std.specs.Int.{w64, from_be_bytes}
 use Rattle.std.specs.Char.{is_ascii_digit}
@@ -64,6 +64,14 @@ MayHaveNumber key limit value (Some its) = HasNumber key limit value its
 abbrev pub MayHaveWords : List ℕ → List ℕ → Json → Option (List ℕ) → Type 0
 MayHaveWords key other value None = Lacks key value × Lacks other value
 MayHaveWords key other value (Some octets) = (HasText key value octets × Lacks other value) ⊎ (Lacks key value × HasOctets other value octets)
+
+-- What may hold or not: `true`, or nothing.
+abbrev pub truth_if : Bool → Option Json
+truth_if true = Some (boolean true)
+truth_if false = None
+
+abbrev pub HasTruth : List ℕ → Json → Bool → Type 0
+HasTruth key value holds = get key value ≡ truth_if holds
 
 -- An object that has no keys but these. None stands in it twice (`IsValue`).
 abbrev pub HasOnly : List (List ℕ) → Json → Type 0
@@ -170,7 +178,8 @@ abbrev pub keys_of_left : List (List ℕ)
 keys_of_left =
     codes "type" ∷ codes "run" ∷ codes "time" ∷ codes "home" ∷ codes "lane" ∷ codes "record" ∷ codes "client" ∷ codes "port"
     ∷ codes "identifier" ∷ codes "authenticator" ∷ codes "realm" ∷ codes "realm_octets" ∷ codes "session" ∷ codes "session_octets"
-    ∷ codes "status" ∷ codes "user" ∷ codes "user_octets" ∷ codes "state" ∷ codes "sendings" ∷ codes "accepted" ∷ codes "request" ∷ codes "sum" ∷ []
+    ∷ codes "status" ∷ codes "user" ∷ codes "user_octets" ∷ codes "state" ∷ codes "sendings" ∷ codes "accepted" ∷ codes "request"
+    ∷ codes "kept" ∷ codes "sum" ∷ []
 
 pub record IsLeft (value : Json) (left : Left) : Type 0 where
   pub no_other : HasOnly keys_of_left value
@@ -180,6 +189,7 @@ pub record IsLeft (value : Json) (left : Left) : Type 0 where
   pub sendings : MayHaveNumber (codes "sendings") (2 ^ 32) value left.sendings
   pub accepted : MayHaveTime (codes "accepted") value (option_copied left.accepted)
   pub request : HasOctets (codes "request") value left.request.now
+  pub kept : HasTruth (codes "kept") value left.kept
 
 -- The values of a list, in order, each of which is what stands at its place.
 abbrev pub AreEach : {X : Type 0} → (Json → X → Type 0) → Items → List X → Type 0

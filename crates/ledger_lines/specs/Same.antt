@@ -47,6 +47,7 @@ pub record IsSameLeft (one another : Left) : Type 0 where
   pub sendings : one.sendings ≡ another.sendings
   pub accepted : option_copied one.accepted ≡ option_copied another.accepted
   pub request : one.request.now ≡ another.request.now
+  pub kept : one.kept ≡ another.kept
 
 pub record IsSameStart (one another : LaneStart) : Type 0 where
   pub lane : one.lane ≡ another.lane

@@ -13,7 +13,7 @@ use Rattle.ledger_rules.specs.declared.line_request.LineRequest.{LineRequest}
 use Rattle.ledger_rules.specs.declared.record_count.RecordCount.{RecordCount}
 use Rattle.json_objects.specs.Written.{items_of, number_value, object_of}
 pub use Rattle.json_objects.specs.Written.{HasBodyBehind, HasFrontBehind}
-use Rattle.ledger_lines.specs.Lines.{IsLine, IsTime, state_text}
+use Rattle.ledger_lines.specs.Lines.{IsLine, IsTime, state_text, truth_if}
 use Rattle.ledger_lines.specs.declared.begin.Begin.{Begin}
 use Rattle.ledger_lines.specs.declared.end.End.{End}
 use Rattle.ledger_lines.specs.declared.begin.FileBefore.{FileBefore}
@@ -74,7 +74,8 @@ entry_value e = object_of (entry_slots e)
 abbrev pub state_slots : Left → List (List ℕ × Option Json)
 state_slots left =
     (codes "state", Some (string (state_text left.state))) ∷ (codes "sendings", option_map number_value left.sendings)
-    ∷ (codes "accepted", option_map string (option_copied left.accepted)) ∷ (codes "request", Some (octets_value left.request.now)) ∷ []
+    ∷ (codes "accepted", option_map string (option_copied left.accepted)) ∷ (codes "request", Some (octets_value left.request.now))
+    ∷ (codes "kept", truth_if left.kept) ∷ []
 
 abbrev pub left_slots : Left → List (List ℕ × Option Json)
 left_slots left = lane_slots (codes "left") left.about ++ (request_slots left.about ++ state_slots left)

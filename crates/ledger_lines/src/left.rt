@@ -13,15 +13,15 @@ ghost use Rattle.rad_lane.specs.declared.leftover.LeftState.{LeftState as TheSta
 use crate::about::{about_at, lane_members, request_members};
 use crate::faults::LineFault;
 use crate::reading::Octets;
-use crate::values::{count_at, has_only, octets_at, text_at, time_if_any_at};
-use crate::writing::{digits, number_if_any, text_if_any, widened};
+use crate::values::{count_at, has_only, octets_at, text_at, time_if_any_at, truth_at};
+use crate::writing::{digits, number_if_any, text_if_any, true_if, widened};
 use json::{Value, Writer};
 use json_objects::{close_body, text};
 use ledger_rules::{Left, LeftState};
 use std::alloc::{AllocError, Global};
 
 /// The keys of a request that was left, in the order in which they are written.
-const LEFT_KEYS: [&str; 22] = [
+const LEFT_KEYS: [&str; 23] = [
     "type",
     "run",
     "time",
@@ -43,6 +43,7 @@ const LEFT_KEYS: [&str; 22] = [
     "sendings",
     "accepted",
     "request",
+    "kept",
     "sum",
 ];
 
@@ -59,12 +60,14 @@ pub(crate) fn left_of<'a>(value: &Value<'a>, room: &'a mut Octets) -> Result<Lef
     let sendings = count_at(value, "sendings")?;
     let accepted = time_if_any_at(value, "accepted")?;
     let request = octets_at(value, "request", request)?;
+    let kept = truth_at(value, "kept")?;
     Ok(Left {
         about,
         state,
         sendings,
         accepted,
         request,
+        kept,
     })
 }
 
@@ -103,6 +106,7 @@ fn left_members(alloc: Global, writer: &mut Writer, left: &Left<'_>) -> Result<(
     number_if_any(writer, "sendings", widened(left.sendings))?;
     text_if_any(writer, "accepted", left.accepted)?;
     digits(alloc, writer, "request", left.request)?;
+    true_if(writer, "kept", left.kept)?;
     writer.end_object()
 }
 

@@ -1,10 +1,10 @@
 //! What a line has at its keys.
 
-ghost use Rattle.std.specs.Prelude.{◌≡◌, ◌++◌, [], ◌∷◌, IfErr, List, MatchResult, OnOk, Option, option_copied, option_map, ◌<◌, ◌^◌, ◌↔◌, ℕ, length, map, MatchOption, IsTrue};
+ghost use Rattle.std.specs.Prelude.{◌≡◌, ◌++◌, [], ◌∷◌, Bool, IfErr, List, MatchResult, OnOk, Option, option_copied, option_map, ◌<◌, ◌^◌, ◌↔◌, ℕ, length, map, MatchOption, IsTrue};
 ghost use Rattle.json.specs.Value.{items_view, value_view, members_view};
 ghost use Rattle.ledger_lines.specs.declared.faults.LineFault.TheVariants.{OutOfMemory};
 ghost use Rattle.json_objects.specs.Written.{IsValue};
-ghost use Rattle.ledger_lines.specs.Lines.{Denies, HasText, as_items, HasArray, HasAuthenticator, HasClient, HasList, HasNumber, HasOctets, HasOnly, HasRun, HasTime, HasTimeForm, has_form, IsTime, MayHaveNumber, MayHaveSum, MayHaveTime, MayHaveWords};
+ghost use Rattle.ledger_lines.specs.Lines.{Denies, HasText, as_items, HasArray, HasAuthenticator, HasClient, HasList, HasNumber, HasOctets, HasOnly, HasRun, HasTime, HasTimeForm, HasTruth, has_form, IsTime, MayHaveNumber, MayHaveSum, MayHaveTime, MayHaveWords};
 ghost use Rattle.json.specs.Json.{Items, Json};
 ghost use Rattle.std.specs.List.{All, Contains};
 ghost use Rattle.json.specs.Strict.{keys};
@@ -327,6 +327,20 @@ pub(crate) fn amount_at(value: &Value<'_>, key: &str) -> Result<Option<u64>, Lin
         return Ok(None);
     }
     Ok(Some(number_at(value, key)?))
+}
+
+/// Whether a key stands there, with `true`: with another value it makes no line.
+#[tactic(auto, using(crate::proofs::Found::nothing_found, crate::proofs::Found::truth_found, crate::proofs::Found::no_truth, crate::proofs::Found::untrue))]
+pub(crate) fn truth_at(value: &Value<'_>, key: &str) -> Result<bool, LineFault>
+    ensures { MatchResult result (λ its. HasTruth key.now (value_view value.now) its) (λ fault. Denies fault ((its : Bool) × HasTruth key.now (value_view value.now) its)) }
+{
+    let Some(found) = value.get(key) else {
+        return Ok(false);
+    };
+    match found.as_bool() {
+        Some(true) => Ok(true),
+        Some(false) | None => Err(LineFault::NotALine),
+    }
 }
 
 #[tactic(auto, using(crate::proofs::Lists::list_found, crate::proofs::Lists::no_list, crate::proofs::Lists::no_list_there))]

@@ -4,6 +4,7 @@ ghost use Rattle.std.specs.Prelude.{◌≡◌, [], ◌∷◌, OnOk, Some, option
 ghost use Rattle.json.specs.Json.{string};
 ghost use Rattle.json_objects.specs.Adding.{AddsSlots, Opens};
 ghost use Rattle.json_objects.specs.Written.{number_value};
+ghost use Rattle.ledger_lines.specs.Lines.{truth_if};
 ghost use Rattle.ledger_lines.specs.Written.{first_slots, octets_value, words_slots};
 ghost use Rattle.rad_realms.specs.Printed.{address_text};
 
@@ -60,6 +61,18 @@ pub(crate) fn text_if_any(
     match value {
         Some(value) => text(writer, key, value),
         None => Ok(()),
+    }
+}
+
+/// A key with `true`, if this holds.
+pub(crate) fn true_if(writer: &mut Writer, key: &str, holds: bool) -> Result<(), AllocError>
+    ensures { OnOk result (AddsSlots writer.old writer.new ((key.now, truth_if holds) ∷ [])) }
+{
+    if holds {
+        writer.key(key)?;
+        writer.boolean(true)
+    } else {
+        Ok(())
     }
 }
 

@@ -15,4 +15,6 @@ pub struct Left<'a> {
     pub accepted: Option<&'a str>,
     /// The packet as it came from the client.
     pub request: &'a [u8],
+    /// Whether it is open in the spool, so that a later run offers it to its lane.
+    pub kept: bool,
 }

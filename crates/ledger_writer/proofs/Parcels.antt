@@ -10,7 +10,7 @@ use Rattle.ledger_writer.specs.declared.parcel.ParcelHead.{ParcelHead}
 -- The packets have as many octets as the head counts.
 pub counted_sum : (its : ParcelKind) (a b c : List ℕ) → AreCounted its a b c → octets_by its ≡ length a + length b + length c
 counted_sum (Response serial x y z) a b c is = omega (arith, is.0, is.1, is.2)
-counted_sum (Left state x) a b c is = omega (arith, is.0, ap length is.1, ap length is.2)
+counted_sum (Left state is_kept x) a b c is = omega (arith, is.0, ap length is.1, ap length is.2)
 counted_sum (Count kind x) a b c is = omega (arith, ap length is.0, ap length is.1, ap length is.2)
 
 pub joined_length : (a b c : List ℕ) → length (a ++ (b ++ c)) ≡ length a + length b + length c
@@ -28,7 +28,7 @@ whole_with_one octets more heads head whole one = omega (arith, length-append oc
 -- The packets of one head fit in the room.
 pub fits_within : (its : ParcelKind) → FitsBy its → octets_by its ≤ 12288
 fits_within (Response serial x y z) fits = omega (arith, fits.0, fits.1, fits.2)
-fits_within (Left state x) fits = omega (arith, fits)
+fits_within (Left state is_kept x) fits = omega (arith, fits)
 fits_within (Count kind x) fits = omega arith
 
 -- Three parts at the front of a list.

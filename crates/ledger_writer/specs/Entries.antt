@@ -1,5 +1,5 @@
 -- The line that a parcel is, by its head and its packets.
-use Rattle.std.specs.Prelude.{◌≡◌, ℕ, ◌⊎◌, ⊤, List, [], Option, Some, None, MatchOption, option_copied, slice_get, string_bytes}
+use Rattle.std.specs.Prelude.{◌≡◌, ℕ, ◌⊎◌, ⊤, Bool, List, [], Option, Some, None, MatchOption, option_copied, slice_get, string_bytes}
 use Rattle.ledger_files.specs.Moments.{IsTimeOf, moment_text}
 use Rattle.ledger_files.specs.declared.utc.UtcTime.{UtcTime}
 use Rattle.json_objects.specs.Written.{HasFrontBehind}
@@ -69,13 +69,14 @@ pub record IsEntryOf (names : RunNames) (parcel : Parcel) (its_serial : ℕ) (mo
   pub accepted : option_copied entry.accepted ≡ since
   pub sendings : entry.sendings ≡ parcel.head.handling.sendings
 
--- The request that is left has this state and these octets.
-pub record IsLeftOf (names : RunNames) (head : ParcelHead) (its_state : LeftState) (octets moment : List ℕ) (since : Option (List ℕ)) (left : Left) : Type 0 where
+-- The request that is left has this state and these octets, and is kept or not.
+pub record IsLeftOf (names : RunNames) (head : ParcelHead) (its_state : LeftState) (is_kept : Bool) (octets moment : List ℕ) (since : Option (List ℕ)) (left : Left) : Type 0 where
   pub about : IsAboutOf names head octets moment left.about
   pub state : left.state ≡ its_state
   pub sendings : left.sendings ≡ head.handling.sendings
   pub accepted : option_copied left.accepted ≡ since
   pub request : left.request.now ≡ octets
+  pub kept : left.kept ≡ is_kept
 
 -- The text of the moment that is so many milliseconds after 1970-01-01T00:00:00Z; and that of one that may be there.
 pub record IsMomentText (milliseconds : ℕ) (text : List ℕ) : Type 0 where
@@ -99,13 +100,13 @@ pub record HasEntryBehind (names : RunNames) (parcel : Parcel) (its_serial : ℕ
   pub is : IsEntryOf names parcel its_serial moment since entry
   pub line : HasFrontBehind before all (entry_value entry)
 
-pub record HasLeftBehind (names : RunNames) (parcel : Parcel) (its_state : LeftState) (before all : List ℕ) : Type 0 where
+pub record HasLeftBehind (names : RunNames) (parcel : Parcel) (its_state : LeftState) (is_kept : Bool) (before all : List ℕ) : Type 0 where
   pub moment : List ℕ
   pub since : Option (List ℕ)
   pub left : Left
   pub time : IsMomentText parcel.head.time moment
   pub accepted : IsMomentIfAny parcel.head.handling.accepted since
-  pub is : IsLeftOf names parcel.head its_state parcel.sent.now moment since left
+  pub is : IsLeftOf names parcel.head its_state is_kept parcel.sent.now moment since left
   pub line : HasFrontBehind before all (left_value left)
 
 -- The same of a count: the run's name, that of the lane's home server, and what the head tells.
@@ -126,7 +127,7 @@ pub record HasCountBehind (names : RunNames) (head : ParcelHead) (kind : CountKi
 
 abbrev pub HasLineOf : ParcelKind → RunNames → Parcel → List ℕ → List ℕ → Type 0
 HasLineOf (response serial sent_count reply_count response_count) names parcel before all = HasEntryBehind names parcel serial before all
-HasLineOf (left state request_count) names parcel before all = HasLeftBehind names parcel state before all
+HasLineOf (left state is_kept request_count) names parcel before all = HasLeftBehind names parcel state is_kept before all
 HasLineOf (counted kind count) names parcel before all = HasCountBehind names parcel.head kind count before all
 
 abbrev pub HasParcelBehind : RunNames → Parcel → List ℕ → List ℕ → Type 0

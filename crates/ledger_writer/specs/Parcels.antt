@@ -13,7 +13,7 @@ use Rattle.ledger_writer.specs.declared.parcel.ParcelHead.{ParcelHead}
 -- How many octets the packets of a parcel have together, by its head; and no packet is longer than 4096 octets.
 abbrev pub octets_by : ParcelKind → ℕ
 octets_by (Response serial sent_count reply_count response_count) = sent_count + reply_count + response_count
-octets_by (Left state request_count) = request_count
+octets_by (Left state is_kept request_count) = request_count
 octets_by (Count kind count) = 0
 
 abbrev pub octets_of : ParcelHead → ℕ
@@ -21,7 +21,7 @@ octets_of head = octets_by head.its
 
 abbrev pub FitsBy : ParcelKind → Type 0
 FitsBy (Response serial sent_count reply_count response_count) = (sent_count ≤ 4096) × (reply_count ≤ 4096) × (response_count ≤ 4096)
-FitsBy (Left state request_count) = request_count ≤ 4096
+FitsBy (Left state is_kept request_count) = request_count ≤ 4096
 FitsBy (Count kind count) = ⊤
 
 abbrev pub Fits : ParcelHead → Type 0
@@ -40,7 +40,7 @@ all_octets (head ∷ heads) = octets_of head + all_octets heads
 abbrev pub AreCounted : ParcelKind → List ℕ → List ℕ → List ℕ → Type 0
 AreCounted (Response serial sent_count reply_count response_count) its_sent its_reply its_response =
     (sent_count ≡ length its_sent) × (reply_count ≡ length its_reply) × (response_count ≡ length its_response)
-AreCounted (Left state request_count) its_sent its_reply its_response =
+AreCounted (Left state is_kept request_count) its_sent its_reply its_response =
     (request_count ≡ length its_sent) × (its_reply ≡ []) × (its_response ≡ [])
 AreCounted (Count kind count) its_sent its_reply its_response = (its_sent ≡ []) × (its_reply ≡ []) × (its_response ≡ [])
 
@@ -66,7 +66,7 @@ pub record IsParcelOf (now : ℕ) (outgoing : Outgoing) (parcel : Parcel) : Type
 
 -- This is the parcel of a request that was told as left at this time. Its age tells when it was accepted.
 pub record IsParcelOfLeft (now : ℕ) (told : LeftRecord) (parcel : Parcel) : Type 0 where
-  pub its : parcel.head.its ≡ Left told.state (length told.request.now)
+  pub its : parcel.head.its ≡ Left told.state told.kept (length told.request.now)
   pub sendings : parcel.head.handling.sendings ≡ told.sendings
   pub accepted : parcel.head.handling.accepted ≡ option_map (λ age. now - age) told.age
   pub time : parcel.head.time ≡ now
@@ -94,7 +94,7 @@ pub record HasPackets (head : ParcelHead) (octets : List ℕ) (parcel : Parcel) 
 -- What a batch keeps of a head: a response alone has a serial.
 abbrev pub serial_by : ParcelKind → Option ℕ
 serial_by (Response serial sent_count reply_count response_count) = Some serial
-serial_by (Left state request_count) = None
+serial_by (Left state is_kept request_count) = None
 serial_by (Count kind count) = None
 
 pub record IsLineHead (head : ParcelHead) (line : LineHead) : Type 0 where

@@ -37,7 +37,7 @@ pub(crate) fn line_of(
 {
     match parcel.head.its {
         ParcelKind::Response { serial, .. } => entry_line(alloc, names, parcel, serial, out),
-        ParcelKind::Left { state, .. } => left_line(alloc, names, parcel, state, out),
+        ParcelKind::Left { state, kept, .. } => left_line(alloc, names, parcel, state, kept, out),
         ParcelKind::Count { kind, count } => {
             count_line(alloc, names, &parcel.head, kind, count, out)
         }
@@ -65,10 +65,11 @@ fn left_line(
     names: &RunNames,
     parcel: &Parcel<'_>,
     state: LeftState,
+    kept: bool,
     out: Vec<u8>,
 ) -> Result<Vec<u8>, AllocError>
     ensures body { IfOk result (λ all. HasBodyBehind out.items all.items) }
-    ensures value { IfOk result (λ all. HasLeftBehind names.now parcel.now state out.items all.items) }
+    ensures value { IfOk result (λ all. HasLeftBehind names.now parcel.now state kept out.items all.items) }
 {
     let head = parcel.head;
     let time = time_text(alloc, head.time)?;
@@ -77,6 +78,7 @@ fn left_line(
         names,
         head,
         state,
+        kept,
         parcel.sent,
         time.as_str(),
         lent(&accepted),
@@ -138,11 +140,12 @@ fn left_of<'a>(
     names: &'a RunNames,
     head: ParcelHead,
     state: LeftState,
+    kept: bool,
     request: &'a [u8],
     time: &'a str,
     accepted: Option<&'a str>,
 ) -> Left<'a>
-    ensures { IsLeftOf names.now head state request.now time.now (option_copied accepted.entry) result }
+    ensures { IsLeftOf names.now head state kept request.now time.now (option_copied accepted.entry) result }
 {
     Left {
         about: about_of(names, head, request, time),
@@ -150,6 +153,7 @@ fn left_of<'a>(
         sendings: head.handling.sendings,
         accepted,
         request,
+        kept,
     }
 }
 

@@ -48,6 +48,8 @@ pub(crate) enum ParcelKind {
     /// A request that is left.
     Left {
         state: LeftState,
+        /// Whether it is open in the spool.
+        kept: bool,
         /// How many octets it has.
         request: usize,
     },
@@ -139,6 +141,7 @@ impl<'a> Parcel<'a> {
             },
             its: ParcelKind::Left {
                 state: told.state,
+                kept: told.kept,
                 request: told.request.len(),
             },
         };

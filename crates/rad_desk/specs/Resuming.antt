@@ -2,6 +2,8 @@
 -- does not.
 use Rattle.std.specs.Prelude.{◌≡◌, ◌⊎◌, ⊤, ℕ, Bool, true, false, List, take, Option}
 use Rattle.rad_config.specs.declared.reading.address.Endpoint.{Endpoint}
+use Rattle.rad_desk.specs.declared.resuming.Hold.{Hold}
+use Rattle.rad_desk.specs.declared.resuming.Hold.TheVariants.{Passes, Waits, Repeats, Refused}
 use Rattle.rad_desk.specs.declared.wire.Received.{Received}
 use Rattle.rad_desk.specs.declared.wire.Received.TheVariants.{Got, Nothing, Fault}
 use Rattle.rad_desk.specs.Traffic.{Event, endpoint, Receives}
@@ -11,6 +13,13 @@ abbrev pub IsADatagram : Received → Type 0
 IsADatagram (Got address port socket count) = ⊤
 IsADatagram Nothing = ⊥
 IsADatagram Fault = ⊥
+
+-- A datagram has to wait, also if it is refused for that.
+abbrev pub is_held : Hold → Bool
+is_held Passes = false
+is_held Waits = true
+is_held Repeats = true
+is_held (Refused reason) = true
 
 -- What was received does not have to wait.
 abbrev pub MayPass : (Endpoint → List ℕ → Bool → Type 0) → Received → List ℕ → Type 0

@@ -1,6 +1,6 @@
 //! What is left at the end, told to a ledger one by one.
 
-ghost use Rattle.std.specs.Prelude.{◌≡◌, ◌+◌, ◌-◌, ◌≤◌, ◌++◌, Some, None, MatchOption, option_copied, length, take, drop, map as each};
+ghost use Rattle.std.specs.Prelude.{◌≡◌, false, ◌+◌, ◌-◌, ◌≤◌, ◌++◌, Some, None, MatchOption, option_copied, length, take, drop, map as each};
 ghost use Rattle.std.specs.List.{Contains};
 ghost use Rattle.rad_lane.specs.declared.stamp.Stamp.{Stamp as TheStamp};
 ghost use Rattle.locked_lanes.specs.Fates.{marked_number};
@@ -37,13 +37,15 @@ pub struct LeftRecord<'a> {
     pub sendings: Option<u32>,
     /// How many milliseconds ago it was accepted, if that is known.
     pub age: Option<u64>,
+    /// Whether it is open on disk, so that a later run offers it to its lane.
+    pub kept: bool,
     /// The request as it came, without padding.
     pub request: &'a [u8],
 }
 
 /// Tells a ledger each request that is left of the lanes, in the order of the lanes, and after those of a lane its
 /// counts. Those of a lane are the answered ones whose responses nobody took, in order of answering; the outstanding
-/// ones, in the order of their pairs; and the queued ones in order. Ages are those at this moment.
+/// ones, in the order of their pairs; and the queued ones in order. Ages are those at this moment. None is told as kept.
 pub fn tell_left<L: Ledger>(report: Report, now: Moment, ledger: &mut L)
     ensures { L.left ledger.new ≡ left_with (L.left ledger.old) (left_of_all report.ends report.queued.items) }
 {
@@ -166,6 +168,7 @@ fn tell_queued<L: Ledger>(
 
 fn of_record(lane: u16, kept: &Record, now: Moment) -> LeftRecord<'_>
     ensures told { as_left result ≡ queued_left lane kept.now.recorded }
+    ensures kept { result.kept ≡ false }
     ensures sendings { result.sendings ≡ Some 0 }
     ensures age { result.age ≡ Some (age_at now kept.now.recorded.stamp) }
 {
@@ -174,6 +177,7 @@ fn of_record(lane: u16, kept: &Record, now: Moment) -> LeftRecord<'_>
 
 fn of_sending(lane: u16, sending: &Sending, now: Moment) -> LeftRecord<'_>
     ensures told { as_left result ≡ outstanding_left lane sending.now }
+    ensures kept { result.kept ≡ false }
     ensures sendings { result.sendings ≡ Some sending.now.sendings }
     ensures age { result.age ≡ Some (age_at now sending.now.request.stamp) }
 {
@@ -183,6 +187,7 @@ fn of_sending(lane: u16, sending: &Sending, now: Moment) -> LeftRecord<'_>
 
 fn of_kept(lane: u16, kept: &Record, state: LeftState, sendings: u32, now: Moment) -> LeftRecord<'_>
     ensures told { as_left result ≡ recorded_left lane state kept.now.recorded }
+    ensures kept { result.kept ≡ false }
     ensures sendings { result.sendings ≡ Some sendings }
     ensures age { result.age ≡ Some (age_at now kept.now.recorded.stamp) }
 {
@@ -199,6 +204,7 @@ fn of_kept(lane: u16, kept: &Record, state: LeftState, sendings: u32, now: Momen
         state,
         sendings: Some(sendings),
         age: Some(age_of(now, stamp.moment)),
+        kept: false,
         request: kept.text(),
     }
 }
@@ -211,6 +217,7 @@ fn of_outgoing<'a>(
     request: &'a [u8],
 ) -> LeftRecord<'a>
     ensures told { number ≡ marked_number outgoing.now.reply.sending → request.now ≡ restored outgoing.now.reply.head outgoing.now.reply.sending → as_left result ≡ untaken_left lane outgoing.now }
+    ensures kept { result.kept ≡ false }
     ensures sendings { result.sendings ≡ None }
     ensures age { result.age ≡ age }
 {
@@ -227,6 +234,7 @@ fn of_outgoing<'a>(
         state: LeftState::Untaken,
         sendings: None,
         age,
+        kept: false,
         request,
     }
 }

@@ -39,7 +39,7 @@ pub use locked_lanes::{
 };
 pub use marks::count_marks;
 pub use memory::{Memory, NothingRemembered};
-pub use resuming::{NoneWaits, ResumedWire, WaitingRequests};
+pub use resuming::{Hold, NoneWaits, ResumedWire, WaitingRequests};
 pub use tally::Tally;
 pub use told_values::{status_of, user_of};
 pub use wire::{Delivery, Received, Traffic, Wire};

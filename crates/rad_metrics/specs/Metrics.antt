@@ -1,4 +1,4 @@
--- The values of the metrics that are read, and the lines of those of the ledger (own).
+-- The values of the metrics that are read, and the lines of those of the ledger and of the spool (own).
 use Rattle.std.specs.Prelude.{ℕ, ◌+◌, ◌-◌, ◌%◌, ◌^◌, ◌&&◌, nat_lt, if◌then◌else◌, List, ◌++◌, codes, Option, Some, None}
 use Rattle.rad_metrics.specs.Families.{head_text}
 use Rattle.rad_metrics.specs.Samples.{sample_text}
@@ -15,6 +15,9 @@ use Rattle.rad_metrics.specs.declared.socket_numbers.SocketReading.{SocketReadin
 use Rattle.ledger_state.specs.declared.state.LedgerReading.{LedgerReading}
 use Rattle.rad_metrics.specs.declared.ledger_metrics.LedgerMetric.{LedgerMetric}
 use Rattle.rad_metrics.specs.declared.ledger_metrics.LedgerMetric.TheVariants as ledger
+use Rattle.rad_metrics.specs.declared.spool_metrics.SpoolMetric.{SpoolMetric}
+use Rattle.rad_metrics.specs.declared.spool_metrics.SpoolMetric.TheVariants as spool
+use Rattle.rad_metrics.specs.declared.spool_metrics.SpoolNumbers.{SpoolNumbers}
 use Rattle.rad_metrics.specs.declared.program_metrics.ProgramMetric.{ProgramMetric}
 use Rattle.rad_metrics.specs.declared.program_metrics.ProgramMetric.TheVariants as program
 use Rattle.rad_metrics.specs.declared.program_metrics.ProgramReading.{ProgramReading}
@@ -84,3 +87,21 @@ ledger_value ledger.Unsynced reading = Milliseconds reading.unsynced
 abbrev pub ledger_text : Family → LedgerMetric → Option LedgerReading → List ℕ
 ledger_text family metric None = codes ""
 ledger_text family metric (Some reading) = head_text family ++ sample_text family.name.now (codes "") (ledger_value metric reading)
+
+abbrev pub spool_value : SpoolMetric → SpoolNumbers → Value
+spool_value spool.Open numbers = Count numbers.open
+spool_value spool.Unsynced numbers = Count numbers.unsynced
+spool_value spool.Behind numbers = Milliseconds numbers.behind
+spool_value spool.Age numbers = Milliseconds numbers.age
+spool_value spool.Octets numbers = Count numbers.octets
+spool_value spool.Lost numbers = Count numbers.lost
+spool_value spool.Written numbers = Count numbers.written
+spool_value spool.Faults numbers = Count numbers.faults
+spool_value spool.Failing numbers = value_of_bool numbers.is_failing
+spool_value spool.Dropped numbers = Count numbers.dropped
+spool_value spool.Held numbers = Count numbers.held
+
+-- The lines of a metric of the spool, or nothing if there is no spool.
+abbrev pub spool_text : Family → SpoolMetric → Option SpoolNumbers → List ℕ
+spool_text family metric None = codes ""
+spool_text family metric (Some numbers) = head_text family ++ sample_text family.name.now (codes "") (spool_value metric numbers)

@@ -4,6 +4,7 @@ use crate::home_metric::Reading;
 use crate::numbers::Numbers;
 use crate::own_process::{ProcessReading, read_process};
 use crate::socket_numbers::{SocketReading, UDP_TABLE};
+use crate::spool_metrics::SpoolNumbers;
 use crate::system_files::{SystemFiles, text_of};
 use crate::writing::{Known, write_metrics};
 use ledger_state::LedgerReading;
@@ -62,7 +63,7 @@ impl Draft {
         numbers.sockets.read(rt, table, &mut self.sockets)
     }
 
-    /// Makes a text of all metrics, of what was read, and of the ledger if there is one.
+    /// Makes a text of all metrics, of what was read, and of the ledger and the spool if there are any.
     ///
     /// # Errors
     ///
@@ -72,6 +73,7 @@ impl Draft {
         config: &Config,
         numbers: &Numbers<'_, R>,
         ledger: Option<LedgerReading<'_>>,
+        spool: Option<SpoolNumbers>,
     ) -> io::Result<()> {
         self.text.clear();
         let known = Known {
@@ -86,6 +88,7 @@ impl Draft {
             readings: self.readings.as_slice(),
             sockets: self.sockets.as_slice(),
             ledger,
+            spool,
         };
         write_metrics(&mut self.text, &known)
     }

@@ -1,5 +1,5 @@
 //! The metrics of a running proxy, in Prometheus' text format: of the program, of the limits, of each client, of each
-//! home server, of each socket and of the ledger.
+//! home server, of each socket, of the ledger and of the spool.
 //!
 //! [`Numbers`] keeps what the workers report. The metrics of one home server are taken under one hold of its lane's
 //! lock, by the lane's worker, when it is asked for them. All labels come from the configuration, from the program and
@@ -12,7 +12,7 @@
 //! two names are the same, that kinds fit names, that names and help texts need no escapes, and that one metric counts each
 //! event. No contract says which name or help text a metric has: a test compares them all. Contracts say how each line is
 //! printed, which part of its [`Reading`] each metric of a home server is, as which event a report is counted, and which
-//! text a metric of the ledger has. No contract covers what is behind a lock or in an atomic, such as a count: tests check
+//! text a metric of the ledger or of the spool has. No contract covers what is behind a lock or in an atomic, such as a count: tests check
 //! it. The definitions are in `specs`: `Rows` has what holds of the list, `Metrics` the values that are read, `Families`,
 //! `Samples` and `Values` how metrics are printed, `Reasons` the places and names of reasons, `Events` which events are
 //! counted, and `Buckets` the bounds of a histogram.
@@ -37,6 +37,7 @@ mod realm_numbers;
 mod reason;
 mod sample;
 mod socket_numbers;
+mod spool_metrics;
 mod system_files;
 mod value;
 mod writing;
@@ -56,5 +57,6 @@ pub use program_metrics::{ProgramMetric, ProgramReading, VERSION};
 pub use realm_numbers::RealmNumbers;
 pub use reason::Reason;
 pub use socket_numbers::{SocketMetric, SocketReading, dropped_by};
+pub use spool_metrics::{SpoolMetric, SpoolNumbers};
 pub use system_files::{SystemFiles, count_own_descriptors, read_system_file};
 pub use value::Value;

@@ -9,6 +9,7 @@ use crate::home_times::Timed;
 use crate::ledger_metrics::LedgerMetric;
 use crate::program_metrics::ProgramMetric;
 use crate::socket_numbers::SocketMetric;
+use crate::spool_metrics::SpoolMetric;
 
 /// A metric. [`metrics`] has the name and the help text of each.
 #[derive(Clone, Copy)]
@@ -21,6 +22,7 @@ pub enum Metric {
     Socket(SocketMetric),
     Ledger(LedgerMetric),
     LedgerClients,
+    Spool(SpoolMetric),
 }
 
 /// Makes a list of families: of each metric, its kind, its name and its help text.
@@ -98,5 +100,16 @@ pub fn metrics() -> &'static [Family]
         Metric::Ledger(LedgerMetric::Age) => Gauge("ledger_oldest_waiting_seconds", "The age of the oldest entry that waits."),
         Metric::Ledger(LedgerMetric::Unsynced) => Gauge("ledger_unsynced_seconds", "The age of the oldest part of the ledger that is not synced."),
         Metric::LedgerClients => Counter("client_ledger_dropped_total", "Entries of the client that are missing from the ledger because too many waited."),
+        Metric::Spool(SpoolMetric::Open) => Gauge("spool_open_requests", "Requests in the spool that are not answered."),
+        Metric::Spool(SpoolMetric::Unsynced) => Gauge("spool_unsynced_requests", "Those of them that are not on disk yet."),
+        Metric::Spool(SpoolMetric::Behind) => Gauge("spool_unsynced_seconds", "How long ago all of them were on disk."),
+        Metric::Spool(SpoolMetric::Age) => Gauge("spool_oldest_seconds", "How long ago the oldest of them came in, and 0 without one."),
+        Metric::Spool(SpoolMetric::Octets) => Gauge("spool_bytes", "The size of the spool's files."),
+        Metric::Spool(SpoolMetric::Lost) => Counter("spool_lost_total", "Requests and responses that found no room on their way to the spool."),
+        Metric::Spool(SpoolMetric::Written) => Counter("spool_written_total", "Entries that were written to the spool."),
+        Metric::Spool(SpoolMetric::Faults) => Counter("spool_faults_total", "How often the spool could not be written."),
+        Metric::Spool(SpoolMetric::Failing) => Gauge("spool_failing", "Whether the spool can't be written."),
+        Metric::Spool(SpoolMetric::Dropped) => Gauge("spool_dropped_requests", "Requests of earlier runs that no longer pass the checks."),
+        Metric::Spool(SpoolMetric::Held) => Counter("spool_held_total", "Datagrams that waited for requests of earlier runs."),
     }
 }

@@ -14,6 +14,7 @@ use crate::program_metrics::{ProgramMetric, ProgramReading, VERSION};
 use crate::realm_numbers::{RealmNumbers, realms_of};
 use crate::sample::{Label, Labels, Sample, label_of_others};
 use crate::socket_numbers::{SocketMetric, SocketReading};
+use crate::spool_metrics::{SpoolNumbers, write_spool};
 use crate::value::Value;
 use ledger_state::LedgerReading;
 use rad_desk::Worker;
@@ -35,6 +36,7 @@ pub(crate) struct Known<'a> {
     pub(crate) readings: &'a [Reading],
     pub(crate) sockets: &'a [SocketReading],
     pub(crate) ledger: Option<LedgerReading<'a>>,
+    pub(crate) spool: Option<SpoolNumbers>,
 }
 
 /// The text, and the metric that is added to it.
@@ -96,6 +98,7 @@ fn write_metric(text: &mut Vec<u8>, family: Family, known: &Known<'_>) -> io::Re
         Metric::Socket(metric) => write_sockets(to, metric, known),
         Metric::Ledger(metric) => write_ledger(to.text, family, metric, known.ledger),
         Metric::LedgerClients => write_ledger_clients(to, known),
+        Metric::Spool(metric) => write_spool(to.text, family, metric, known.spool),
     }
 }
 

@@ -36,7 +36,7 @@ pub enum Fault {
     /// not exist, or cuts more octets than there are.
     #[error("events: line {0}")]
     Events(usize),
-    /// The folder of the spool can't be used: another process holds it, or others may read it. The log has the reason.
+    /// Another process holds the folder of the spool, or others may use it. The log has the reason.
     #[error("spool: refused")]
     Spool,
     /// Standard output takes nothing more. Its line is not printed.

@@ -53,7 +53,7 @@ where
     open_standard(rt)?;
     let alloc = rt.alloc();
     let end = match read_task(rt, alloc)? {
-        Task::Check(file) => return print_counts(rt, alloc, file.as_str()),
+        Task::Check(file) => return print_counts(rt, machine, alloc, file.as_str()),
         Task::Replay => replay(rt, alloc, WaitingInput::new(rt.reader()), io::writer(rt))?,
         Task::Run(file) => serve_file(rt, machine, alloc, file.as_str())?,
     };
@@ -65,9 +65,14 @@ fn read_task<R: Env + AllocGlobal>(rt: &R, alloc: Global) -> Result<Task, Fault>
     read_words(alloc, words.as_slice())
 }
 
-fn print_counts<H: Host>(rt: &H, alloc: Global, file: &str) -> Result<u8, Fault> {
+fn print_counts<H: Host, M: Machine>(
+    rt: &H,
+    machine: &M,
+    alloc: Global,
+    file: &str,
+) -> Result<u8, Fault> {
     let log = open_log_if_asked(rt, alloc)?;
-    let counts = check_file(rt, alloc, &log, file)?;
+    let counts = check_file(rt, machine, alloc, &log, file)?;
     match println!(rt; "{counts}") {
         Ok(()) => Ok(0),
         Err(error) => {

@@ -23,8 +23,8 @@ use rad_telemetry::{
 };
 use spool_files::LocalAddress;
 use spool_writer::{
-    EarlierAnswers, Offers, OpenedSpool, SpoolLedger, SpoolState, find_spool, log_damage,
-    log_spool_fault, log_unfit, open_spool, start_spool_writer,
+    EarlierAnswers, OfferNotes, Offers, OpenedSpool, SpoolLedger, SpoolState, find_spool,
+    log_damage, log_spool_fault, log_unfit, open_spool, start_spool_writer,
 };
 use std::alloc::{AllocError, Global};
 use std::io::{self, Error};
@@ -105,6 +105,7 @@ fn check_stack<L: Log>(log: &L) -> Result<(), Fault> {
 struct Told<'a> {
     ledger: Option<&'a LedgerState>,
     spool: Option<&'a SpoolState>,
+    notes: Option<&'a OfferNotes>,
 }
 
 /// A configuration that is served, and what it is served with.
@@ -170,7 +171,7 @@ impl<'a, H: Host + Net, M: Machine> Service<'a, H, M> {
         }
     }
 
-    /// Opens the spool, if there is to be one.
+    /// Opens the spool, if there is to be one and it can be read.
     fn open_spool(self, run: u64) -> Result<Option<OpenedSpool<'a, H, M::Spool>>, Fault> {
         let Some(place) = find_spool(self.rt, self.log)? else {
             return Ok(None);
@@ -185,7 +186,11 @@ impl<'a, H: Host + Net, M: Machine> Service<'a, H, M> {
             Ok(spool) => Ok(Some(spool)),
             Err(fault) => {
                 log_spool_fault(self.log, fault);
-                Err(Fault::Spool)
+                if fault.is_refusal() {
+                    Err(Fault::Spool)
+                } else {
+                    Ok(None)
+                }
             }
         }
     }
@@ -210,6 +215,7 @@ impl<'a, H: Host + Net, M: Machine> Service<'a, H, M> {
                 Told {
                     ledger,
                     spool: None,
+                    notes: None,
                 },
             );
         };
@@ -225,8 +231,10 @@ impl<'a, H: Host + Net, M: Machine> Service<'a, H, M> {
             faults,
         } = spool;
         log_damage(self.log, &faults);
-        let (waiting, unfit) = Offers::new(self.rt, self.alloc, self.config, requests, notes)?;
+        let own = Arc::try_clone(&notes)?;
+        let (waiting, unfit) = Offers::new(self.rt, self.alloc, self.config, requests, own)?;
         log_unfit(self.log, &unfit);
+        state.set_dropped(unfit.len());
         if !start_spool_writer(self.rt, self.alloc, writer, disk) {
             return Err(self.tell(ServeFault::Threads));
         }
@@ -239,6 +247,7 @@ impl<'a, H: Host + Net, M: Machine> Service<'a, H, M> {
         let told = Told {
             ledger,
             spool: Some(&*state),
+            notes: Some(&*notes),
         };
         let outcome = self.serve(keepers, told);
         state.end(self.rt, Duration::from_millis(LAST_ENTRIES));
@@ -310,7 +319,7 @@ impl<'a, H: Host + Net, M: Machine> Service<'a, H, M> {
                 if reports.is_err() {
                     return Err(ServeFault::Threads);
                 }
-                let gate = telemetry.gate_of(rt, told.ledger);
+                let gate = telemetry.gate_of(rt, told.ledger, told.notes);
                 let end = run_with(
                     rt,
                     machine,

@@ -1,4 +1,4 @@
-//! The gate that also tells the ledger how requests are handled.
+//! The gate that also tells the ledger how requests are handled, and the spool which lanes have room.
 
 ghost use Rattle.std.specs.Prelude.{◌≡◌};
 
@@ -9,17 +9,19 @@ use rad_log::Log;
 use rad_metrics::time_since_1970;
 use rad_realms::Endpoint;
 use rad_server::{PortsFault, SocketReports};
+use spool_writer::OfferNotes;
 use std::io::Error;
 use std::sync::Wait;
 use std::time::Clock;
 
 /// Counts and logs what the workers do, and tells the ledger, if there is one, when each request is accepted, each time that
-/// it is sent, and which responses could not be sent.
+/// it is sent, and which responses could not be sent. Tells the spool, if there is one, when a queue or a book is shorter.
 #[derive(Drop)]
 pub struct LedgerGate<'a, L, R> {
     pub(crate) rt: &'a R,
     pub(crate) telemetry: &'a Telemetry<'a, L, R>,
     pub(crate) ledger: Option<&'a LedgerState>,
+    pub(crate) notes: Option<&'a OfferNotes>,
 }
 
 impl<L: Log, R: Clock> Gate for LedgerGate<'_, L, R> {
@@ -38,6 +40,9 @@ impl<L: Log, R: Clock> Gate for LedgerGate<'_, L, R> {
     fn report(&self, worker: Worker, report: &WorkerReport<'_>) {
         if let Some(ledger) = self.ledger {
             tell(self.rt, ledger, worker, report);
+        }
+        if let Some(notes) = self.notes {
+            notes.see(worker, report);
         }
         self.telemetry.report(worker, report);
     }

@@ -131,7 +131,11 @@ impl fmt::Display for LeftLine<'_> {
             f,
             "event=left home={home} lane={lane} number={number} {client} identifier={identifier}"
         )?;
-        write!(f, "{session}{status} state={state}{sendings}{age}")
+        write!(f, "{session}{status} state={state}{sendings}{age}")?;
+        if told.kept {
+            f.write_str(" kept=true")?;
+        }
+        Ok(())
     }
 }
 

@@ -7,9 +7,9 @@ use crate::trace_file::{TraceLook, TraceText};
 use crate::tracer::Tracer;
 use ledger_state::LedgerState;
 use rad_log::{Log, wait_until_set};
-use rad_metrics::{Draft, Numbers, SystemFiles};
+use rad_metrics::{Draft, Numbers, SpoolNumbers, SystemFiles};
 use rad_realms::Config;
-use spool_writer::SpoolState;
+use spool_writer::{ClockWatch, SpoolState};
 use std::alloc::Global;
 use std::io;
 use std::sync::atomic::{AtomicU64, Ordering};
@@ -105,10 +105,12 @@ where
 {
     let mut draft = Draft::new(alloc);
     let mut look = TraceLook::new(alloc);
+    let mut watch = ClockWatch::new(reporter.config);
     for _ in rt.forever() {
         if report_once(rt, system, &reporter, stop, &mut draft, &mut look) {
             return;
         }
+        reporter.watch_clock(rt, &mut watch);
         stop.wait(rt, PERIOD - ASKED);
     }
 }
@@ -155,6 +157,13 @@ impl<L: Log, R> Reporter<'_, L, R> {
         }
     }
 
+    /// Logs a jump of the wall clock, by which the spool remembers answers, if there is a spool.
+    fn watch_clock<C: Clock>(&self, clock: &C, watch: &mut ClockWatch) {
+        if self.spool.is_some() {
+            watch.look(clock, self.log);
+        }
+    }
+
     fn log_sums(&self) {
         let counts = self.numbers.counts();
         self.sums.log(self.log, self.config, counts);
@@ -191,6 +200,28 @@ impl<L: Log, R: Clock> Reporter<'_, L, R> {
             Some(ledger) => Some(ledger.reading(self.numbers.now())),
             None => None,
         };
-        draft.write(self.config, self.numbers, ledger)
+        let spool = match self.spool {
+            Some(spool) => Some(numbers_of(spool, self.numbers.now())),
+            None => None,
+        };
+        draft.write(self.config, self.numbers, ledger, spool)
+    }
+}
+
+/// Returns the numbers of a spool, at this moment in milliseconds since 1970.
+fn numbers_of(spool: &SpoolState, now: u64) -> SpoolNumbers {
+    let reading = spool.reading(now);
+    SpoolNumbers {
+        open: reading.open,
+        unsynced: reading.unsynced,
+        behind: reading.behind,
+        age: reading.age,
+        octets: reading.octets,
+        lost: reading.lost,
+        written: reading.written,
+        faults: reading.faults,
+        is_failing: reading.is_failing,
+        dropped: reading.dropped,
+        held: reading.held,
     }
 }

@@ -15,6 +15,7 @@ use rad_desk::{Asked, Call, Gate, Go, Ledger, Worker, WorkerReport};
 use rad_log::{Level, Log, logs_at, tell};
 use rad_metrics::{Classified, Numbers, worker_row};
 use rad_realms::Config;
+use spool_writer::OfferNotes;
 use std::alloc::{AllocError, Global};
 use std::time::Clock;
 
@@ -74,14 +75,22 @@ impl<'a, L: Log, R: Clock> Telemetry<'a, L, R> {
         }
     }
 
-    /// Makes a gate that also tells this ledger, if there is one, how requests are handled.
-    pub fn gate_of(&'a self, rt: &'a R, ledger: Option<&'a LedgerState>) -> LedgerGate<'a, L, R>
-        ensures { result.ledger ≡ ledger.entry }
+    /// Makes a gate that also tells this ledger how requests are handled, and these notes which lanes have room, where there
+    /// are any.
+    pub fn gate_of(
+        &'a self,
+        rt: &'a R,
+        ledger: Option<&'a LedgerState>,
+        notes: Option<&'a OfferNotes>,
+    ) -> LedgerGate<'a, L, R>
+        ensures ledger { result.ledger ≡ ledger.entry }
+        ensures notes { result.notes ≡ notes.entry }
     {
         LedgerGate {
             rt,
             telemetry: self,
             ledger,
+            notes,
         }
     }
 

@@ -21,6 +21,9 @@ const FOLDER_MODE: u32 = 0o700;
 /// What the name of a segment's file ends with, behind the 16 hexadecimal digits of its number.
 const SUFFIX: &str = ".spool";
 
+/// What follows that in the name of a file that is no segment any more, since it is damaged.
+const ASIDE: &str = ".damaged";
+
 /// How many digits the number in a file's name has.
 const DIGITS: usize = 16;
 
@@ -150,6 +153,23 @@ pub fn remove_segment<R: Files>(
     number: u64,
 ) -> io::Result<()> {
     fs::remove_file(rt, path_of(alloc, folder, number)?.as_str())?;
+    sync_folder(rt, folder)
+}
+
+/// Renames the file of a damaged segment, so that it is no segment any more and its octets stay, and has the system keep that.
+///
+/// # Errors
+///
+/// If the system refuses it. Then, as with [`remove_segment`], no newer segment should be removed any more.
+pub fn set_segment_aside<R: Files>(
+    rt: &R,
+    alloc: Global,
+    folder: &str,
+    number: u64,
+) -> io::Result<()> {
+    let path = path_of(alloc, folder, number)?;
+    let aside = format!(in alloc; "{path}{ASIDE}")?;
+    fs::rename(rt, path.as_str(), aside.as_str())?;
     sync_folder(rt, folder)
 }
 

@@ -36,6 +36,7 @@ pub use entries::{ReadError, put_entry, read_entries};
 pub use entry::{Answered, Begun, Came, GivenUp, Head, LocalAddress};
 pub use folder::{
     SegmentFile, find_segment, make_folder, make_segment, remove_segment, segment_numbers,
+    set_segment_aside,
 };
 pub use laws::what_is_read_is_one;
 pub use logged_file::{FileCalls, LoggedFile};

@@ -1,2 +1,4 @@
 mod Accounts
 mod Merging
+pub mod KeysOfWaiting
+pub mod HoldsWaiting

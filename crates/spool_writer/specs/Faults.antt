@@ -1,7 +1,23 @@
 -- Why a spool is not there, or is not written: its number, and its text in the log. Own.
-use Rattle.std.specs.Prelude.{ℕ, ℤ, pos, int_lt, unsigned_abs, ◌+◌, ◌*◌, ◌/◌, ◌%◌, ◌==◌, if◌then◌else◌, List, codes, Option, Some, None}
+use Rattle.std.specs.Prelude.{Bool, true, false, ℕ, ℤ, pos, int_lt, unsigned_abs, ◌+◌, ◌*◌, ◌/◌, ◌%◌, ◌==◌, if◌then◌else◌, List, codes, Option, Some, None}
 use Rattle.spool_writer.specs.declared.fault.SpoolFault.{SpoolFault}
 use Rattle.spool_writer.specs.declared.fault.SpoolFault.TheVariants.{NoText, NoNumber, Memory, Folder, Others, Lock, Held, Read, Later, Limit, Create, Write, Sync}
+
+-- a program does not start for the fault
+abbrev pub is_refusal : SpoolFault → Bool
+is_refusal NoText = false
+is_refusal NoNumber = false
+is_refusal Memory = false
+is_refusal (Folder number) = false
+is_refusal Others = true
+is_refusal (Lock number) = false
+is_refusal Held = true
+is_refusal (Read number) = false
+is_refusal Later = false
+is_refusal Limit = false
+is_refusal (Create number) = false
+is_refusal (Write number) = false
+is_refusal (Sync number) = false
 
 -- the number of values of a system's number
 abbrev pub numbers : ℕ

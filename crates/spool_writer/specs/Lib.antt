@@ -1,4 +1,5 @@
 pub mod Accounted
+pub mod Clocks
 pub mod Earlier
 pub mod Faults
 pub mod LogLines

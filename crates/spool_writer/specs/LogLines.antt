@@ -1,9 +1,11 @@
 -- The log lines of a spool, without their line feeds. Own.
 use Rattle.std.specs.Prelude.{List, ℕ, ◌++◌, codes, Option, Some, None}
 use Rattle.std.specs.Fmt.{decimal}
+use Rattle.spool_writer.specs.Clocks.{jump_text}
 use Rattle.spool_writer.specs.Faults.{fault_text}
 use Rattle.spool_writer.specs.declared.log_lines.SpoolLine.{SpoolLine}
 use Rattle.spool_writer.specs.declared.log_lines.SpoolLine.TheVariants as line
+use Rattle.spool_writer.specs.declared.log_lines.WaitingLine.{WaitingLine}
 
 -- the line of a fault whose text is known
 abbrev pub fault_line : Option (List ℕ) → Option (List ℕ)
@@ -19,3 +21,8 @@ spool_line (line.Left count) = Some (codes "event=spool-left count=" ++ decimal 
 spool_line (line.Damage fault) = None
 spool_line (line.Unfit request) = None
 spool_line (line.Dropped count) = Some (codes "event=spool-dropped count=" ++ decimal count)
+spool_line (line.Clock jump) = Some (codes "event=spool-clock jump=" ++ jump_text jump)
+
+-- so many requests of a home server wait, and the oldest came in so many seconds ago
+abbrev pub waiting_line : WaitingLine → List ℕ
+waiting_line line = codes "event=spool-waiting home=" ++ line.home.now ++ codes " count=" ++ decimal line.count ++ codes " oldest=" ++ decimal line.seconds

@@ -55,4 +55,11 @@ pub trait SpoolDisk {
     ///
     /// If the system or memory refuses it.
     fn remove(&self, alloc: Global, folder: &str, number: u64) -> io::Result<()>;
+
+    /// Renames the file of a damaged segment, so that it is no segment any more, and has the system keep that.
+    ///
+    /// # Errors
+    ///
+    /// If the system or memory refuses it.
+    fn set_aside(&self, alloc: Global, folder: &str, number: u64) -> io::Result<()>;
 }

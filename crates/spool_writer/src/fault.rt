@@ -2,7 +2,7 @@
 
 ghost use Rattle.std.specs.Prelude.{◌≡◌, ◌<◌, Some};
 ghost use Rattle.std.specs.IoError.{raw_os_error};
-ghost use Rattle.spool_writer.specs.Faults.{fault_number, fault_of_number, fault_step, number_of_code, number_of_system};
+ghost use Rattle.spool_writer.specs.Faults.{fault_number, fault_of_number, fault_step, is_refusal, number_of_code, number_of_system};
 
 use spool_files::{AppendError, DeviceFault, Step};
 use std::fmt::{self, Display};
@@ -44,6 +44,14 @@ pub enum SpoolFault {
 const NUMBERS: u64 = 1 << 32;
 
 impl SpoolFault {
+    /// Returns whether a program does not start for this fault: the folder is another process's, or others may use it. Where a
+    /// spool can't be locked or read a program serves without it.
+    pub fn is_refusal(self) -> bool
+        ensures { result ≡ is_refusal self }
+    {
+        matches!(self, SpoolFault::Others | SpoolFault::Held)
+    }
+
     /// Returns the number that stands for the fault. It is not 0.
     pub(crate) fn number(self) -> u64
         ensures number { result ≡ fault_number self }

@@ -16,7 +16,14 @@ use rad_realms::{Checked, Incoming};
 use spool_files::LocalAddress;
 use std::alloc::Global;
 use std::sync::{Arc, Wait};
-use std::time::Clock;
+use std::thread;
+use std::time::{Clock, Duration, Instant};
+
+/// How many milliseconds the requests that are left wait for the disk, all together.
+const LONGEST: u64 = 10_000;
+
+/// How many milliseconds pass between two looks.
+const LOOK: u64 = 1;
 
 /// What the front puts requests in: each that a lane takes as new. One that finds no room is counted, and is not kept.
 #[derive(Drop)]
@@ -119,6 +126,18 @@ impl<R: Clock + Wait> Entrance for SpoolInlet<'_, R> {
 pub struct SpoolLedger<'a, R, L: Drop> {
     pub(crate) ledger: L,
     pub(crate) outlet: ResponseInlet<'a, R>,
+    pub(crate) left: LeftWait,
+}
+
+/// What is known of the requests that are left.
+#[derive(Clone, Copy)]
+pub(crate) enum LeftWait {
+    /// None is told yet.
+    Untold,
+    /// The first was told at this moment, once the thread had ended so many rounds.
+    Since(Option<Instant>, u64),
+    /// All are on disk.
+    Kept,
 }
 
 /// What the front puts responses in.
@@ -132,7 +151,6 @@ pub struct ResponseInlet<'a, R> {
     /// The last time that was read, in milliseconds since 1970.
     pub(crate) time: u64,
     pub(crate) state: Arc<SpoolState>,
-    pub(crate) notes: Arc<OfferNotes>,
 }
 
 impl<R: Clock + Wait> ResponseInlet<'_, R> {
@@ -165,7 +183,69 @@ impl<R: Clock + Wait> ResponseInlet<'_, R> {
 impl<'a, R, L: Drop> SpoolLedger<'a, R, L> {
     /// Makes a ledger that puts each response into the ring before it passes it on.
     pub fn new(outlet: ResponseInlet<'a, R>, ledger: L) -> SpoolLedger<'a, R, L> {
-        SpoolLedger { ledger, outlet }
+        SpoolLedger {
+            ledger,
+            outlet,
+            left: LeftWait::Untold,
+        }
+    }
+}
+
+impl<R: Clock + Wait> ResponseInlet<'_, R> {
+    /// Returns what is known of the requests that are left once one more is told. It waits until all are on disk, ten seconds at most
+    /// from the first one on, unless one found no room or the disk fails: then that can't be said.
+    fn wait_for_left(&self, left: LeftWait) -> LeftWait {
+        let (since, rounds) = match left {
+            LeftWait::Kept => return LeftWait::Kept,
+            LeftWait::Since(since, rounds) => (since, rounds),
+            LeftWait::Untold => (Instant::now(self.clock).ok(), self.state.rounds()),
+        };
+        if wait_for_all(self.clock, &self.state, since, rounds) {
+            LeftWait::Kept
+        } else {
+            LeftWait::Since(since, rounds)
+        }
+    }
+}
+
+impl LeftWait {
+    /// Returns whether all are on disk.
+    fn is_kept(self) -> bool {
+        match self {
+            LeftWait::Kept => true,
+            LeftWait::Untold | LeftWait::Since(..) => false,
+        }
+    }
+}
+
+/// Waits until all requests are on disk that were put before the thread had ended so many rounds, and returns whether they are.
+/// The time counts from this moment; if that is not known, nothing waits.
+fn wait_for_all<R: Clock + Wait>(
+    clock: &R,
+    state: &SpoolState,
+    since: Option<Instant>,
+    rounds: u64,
+) -> bool {
+    for _ in 0..LONGEST {
+        if state.has_all(rounds) {
+            return true;
+        }
+        if !state.can_have_all() || is_over(clock, since) {
+            return false;
+        }
+        thread::sleep(clock, Duration::from_millis(LOOK));
+    }
+    false
+}
+
+/// Returns whether the longest wait from this moment on is over.
+fn is_over<R: Clock>(clock: &R, since: Option<Instant>) -> bool {
+    match since {
+        Some(since) => match since.elapsed(clock) {
+            Ok(passed) => passed >= Duration::from_millis(LONGEST),
+            Err(_) => true,
+        },
+        None => true,
     }
 }
 
@@ -180,7 +260,6 @@ impl<R: Clock + Wait, L: Ledger + Drop> Ledger for SpoolLedger<'_, R, L> {
 
     fn keep<W: Wire>(&mut self, outgoing: &Outgoing, wire: &W) {
         self.outlet.put(outgoing, wire);
-        self.outlet.notes.answered(outgoing.reply.mark().lane);
         self.ledger.keep(outgoing, wire);
     }
 
@@ -189,7 +268,9 @@ impl<R: Clock + Wait, L: Ledger + Drop> Ledger for SpoolLedger<'_, R, L> {
     }
 
     fn leave(&mut self, told: &LeftRecord<'_>) {
-        self.ledger.leave(told);
+        self.left = self.outlet.wait_for_left(self.left);
+        let kept = self.left.is_kept();
+        self.ledger.leave(&LeftRecord { kept, ..*told });
     }
 
     fn end_lane(&mut self, lane: u16, counts: &Counts) {

@@ -2,6 +2,7 @@
 
 use crate::fault::SpoolFault;
 use crate::offers::Unfit;
+use crate::wall_clock::ClockJump;
 use rad_log::{Level, Log, tell};
 use spool_files::Fault;
 use std::fmt;
@@ -48,6 +49,8 @@ pub enum SpoolLine {
     Unfit(Unfit),
     /// So many requests no longer pass the checks.
     Dropped(usize),
+    /// The wall clock jumped.
+    Clock(ClockJump),
 }
 
 impl fmt::Display for SpoolLine {
@@ -80,6 +83,36 @@ impl fmt::Display for SpoolLine {
                 )
             }
             SpoolLine::Dropped(count) => write!(f, "event=spool-dropped count={count}"),
+            SpoolLine::Clock(jump) => write!(f, "event=spool-clock jump={jump}"),
         }
+    }
+}
+
+/// The log line of the requests of a home server that wait in a spool.
+#[derive(Clone, Copy)]
+pub struct WaitingLine<'a> {
+    /// The home server's name.
+    pub home: &'a str,
+    pub count: u64,
+    /// How many seconds ago the oldest came in.
+    pub seconds: u64,
+}
+
+impl fmt::Display for WaitingLine<'_> {
+    ghost use Rattle.std.specs.Prelude.{Some};
+    ghost use Rattle.spool_writer.specs.LogLines.{waiting_line};
+
+    ghost output = { λ line. Some (waiting_line line) };
+
+    fn fmt<W: fmt::Write>(&self, f: &mut fmt::Formatter<W>) -> fmt::Result {
+        let WaitingLine {
+            home,
+            count,
+            seconds,
+        } = *self;
+        write!(
+            f,
+            "event=spool-waiting home={home} count={count} oldest={seconds}"
+        )
     }
 }

@@ -1,91 +1,126 @@
-//! What became of the request that was given last, and which lanes have answered since.
+//! What became of the request that was given last, and how many places became free in each lane.
 
-use rad_desk::Handled;
-use rad_lane::Refusal;
+use rad_desk::{Handled, Worker, WorkerReport};
+use rad_lane::{Refusal, Taken};
+use rad_tables::Key;
 use std::alloc::{AllocError, Global};
 use std::sync::atomic::{AtomicU64, Ordering};
 
 /// What becomes of a request that comes in again.
 #[derive(Clone, Copy, Debug, PartialEq, Eq)]
 pub(crate) enum Fate {
-    /// Its lane has it.
+    /// Its lane took it as new.
     Taken,
+    /// Its lane has it already.
+    Known,
+    /// Its lane refuses it for another reason than want of room, or it was dropped.
+    Over,
     /// Its queue is full.
     QueueFull,
-    /// Its book is full, or memory was refused.
-    NoRoom,
+    /// Its book is full.
+    BookFull,
+    /// Memory was refused.
+    NoMemory,
     /// Its lane is drained.
     Drained,
-    /// It was refused for another reason, or dropped.
-    Refused,
 }
 
 /// Each fate, at its place.
 const FATES: &[Fate] = &[
     Fate::Taken,
+    Fate::Known,
+    Fate::Over,
     Fate::QueueFull,
-    Fate::NoRoom,
+    Fate::BookFull,
+    Fate::NoMemory,
     Fate::Drained,
-    Fate::Refused,
 ];
 
 impl Fate {
     /// Returns what this outcome says of a request.
     fn of(outcome: Result<Handled, Refusal>) -> Fate {
         match outcome {
-            Ok(_) => Fate::Taken,
+            Ok(Handled::Taken(_, Taken::New(_))) => Fate::Taken,
+            Ok(_) => Fate::Known,
             Err(Refusal::QueueFull) => Fate::QueueFull,
-            Err(Refusal::BookFull | Refusal::OutOfMemory) => Fate::NoRoom,
+            Err(Refusal::BookFull) => Fate::BookFull,
+            Err(Refusal::OutOfMemory) => Fate::NoMemory,
             Err(Refusal::Draining) => Fate::Drained,
-            Err(Refusal::TooLong | Refusal::WrongLane) => Fate::Refused,
+            Err(Refusal::TooLong | Refusal::WrongLane) => Fate::Over,
         }
     }
 }
 
-/// What the front notes for [`crate::Offers`]. Only its thread uses it.
+/// How many places became free in a lane while requests waited.
+#[derive(Clone, Copy)]
+pub(crate) struct Freed {
+    /// Of its queue.
+    pub(crate) queue: u64,
+    /// Of its book.
+    pub(crate) book: u64,
+}
+
+#[derive(Drop)]
+struct FreedPlaces {
+    queue: AtomicU64,
+    book: AtomicU64,
+}
+
+/// What the front and the workers of the lanes note for [`crate::Offers`].
 #[derive(Drop)]
 pub struct OfferNotes {
-    /// 1 while requests wait.
+    /// How many requests wait.
     waiting: AtomicU64,
     /// The place of the fate of the datagram that was handled last.
     fate: AtomicU64,
-    /// How many responses each lane gave while requests waited.
-    answers: Vec<AtomicU64>,
+    /// How many places became free in each lane while requests waited.
+    freed: Vec<FreedPlaces>,
     /// How many datagrams had to wait.
     held: AtomicU64,
+    /// The keys of the requests that earlier runs answered.
+    answered: Vec<Key>,
 }
 
 impl OfferNotes {
-    /// Makes the notes of so many lanes.
+    /// Makes the notes of so many lanes, with the keys of the requests that earlier runs answered.
     ///
     /// # Errors
     ///
     /// `AllocError` if memory is refused.
-    pub(crate) fn new(alloc: Global, lanes: usize) -> Result<OfferNotes, AllocError> {
-        let mut answers = Vec::with_capacity(alloc, lanes)?;
+    pub(crate) fn new(
+        alloc: Global,
+        lanes: usize,
+        answered: Vec<Key>,
+    ) -> Result<OfferNotes, AllocError> {
+        let mut freed = Vec::with_capacity(alloc, lanes)?;
         for _ in 0..lanes {
-            answers.push(AtomicU64::new(0))?;
+            freed.push(FreedPlaces {
+                queue: AtomicU64::new(0),
+                book: AtomicU64::new(0),
+            })?;
         }
         Ok(OfferNotes {
             waiting: AtomicU64::new(0),
             fate: AtomicU64::new(0),
-            answers,
+            freed,
             held: AtomicU64::new(0),
+            answered,
         })
     }
 
-    /// Notes whether requests wait.
-    pub(crate) fn set_waiting(&self, is_waiting: bool) {
-        self.waiting.store(u64::from(is_waiting), Ordering::SeqCst);
+    /// Notes how many requests wait.
+    pub(crate) fn set_waiting(&self, count: u64) {
+        self.waiting.store(count, Ordering::SeqCst);
     }
 
-    fn is_waiting(&self) -> bool {
-        self.waiting.load(Ordering::SeqCst) != 0
+    /// Returns how many requests wait for room, of those that earlier runs left and of those behind them.
+    pub fn waiting(&self) -> u64 {
+        self.waiting.load(Ordering::SeqCst)
     }
 
     /// Forgets what became of the datagram before.
     pub(crate) fn begin(&self) {
-        self.note(Fate::Refused);
+        self.note(Fate::Over);
     }
 
     fn note(&self, fate: Fate) {
@@ -95,7 +130,7 @@ impl OfferNotes {
 
     /// Notes the result of a datagram.
     pub(crate) fn handled(&self, outcome: Result<Handled, Refusal>) {
-        if self.is_waiting() {
+        if self.waiting() != 0 {
             self.note(Fate::of(outcome));
         }
     }
@@ -103,24 +138,45 @@ impl OfferNotes {
     /// Returns what became of the datagram that was handled since [`OfferNotes::begin`]. If none was, it was dropped.
     pub(crate) fn fate(&self) -> Fate {
         let place = self.fate.load(Ordering::SeqCst) as usize;
-        FATES.get(place).copied().unwrap_or(Fate::Refused)
+        FATES.get(place).copied().unwrap_or(Fate::Over)
     }
 
-    /// Notes that a lane gave a response.
-    pub(crate) fn answered(&self, lane: u16) {
-        if self.is_waiting()
-            && let Some(count) = self.answers.get(usize::from(lane))
-        {
-            count.fetch_add(1, Ordering::SeqCst);
+    /// Notes what the worker of a lane reports, if places became free by that.
+    pub fn see(&self, worker: Worker, report: &WorkerReport<'_>) {
+        let Worker::Lane(lane) = worker else {
+            return;
+        };
+        if self.waiting() == 0 {
+            return;
+        }
+        let Some(freed) = self.freed.get(usize::from(lane)) else {
+            return;
+        };
+        match report {
+            WorkerReport::FirstSent { .. } => {
+                freed.queue.fetch_add(1, Ordering::SeqCst);
+            }
+            WorkerReport::Cut(count) => {
+                freed.book.fetch_add(*count, Ordering::SeqCst);
+            }
+            _ => {}
         }
     }
 
-    /// Returns how many responses a lane gave while requests waited.
-    pub(crate) fn answers(&self, lane: usize) -> u64 {
-        match self.answers.get(lane) {
-            Some(count) => count.load(Ordering::SeqCst),
-            None => 0,
+    /// Returns how many places became free in a lane while requests waited.
+    pub(crate) fn freed(&self, lane: usize) -> Freed {
+        match self.freed.get(lane) {
+            Some(freed) => Freed {
+                queue: freed.queue.load(Ordering::SeqCst),
+                book: freed.book.load(Ordering::SeqCst),
+            },
+            None => Freed { queue: 0, book: 0 },
         }
+    }
+
+    /// Returns the keys of the requests that earlier runs answered.
+    pub(crate) fn answered(&self) -> &[Key] {
+        self.answered.as_slice()
     }
 
     /// Counts a datagram that has to wait.

@@ -1,36 +1,46 @@
 //! The requests that earlier runs left, as they come in again.
 
-ghost use Rattle.std.specs.Prelude.{◌≡◌, Some, IfSome, is_some, option_map};
+ghost use Rattle.std.specs.Prelude.{◌≡◌, ◌↔◌, ◌<◌, ◌∷◌, ◌++◌, ℕ, length, true, false, IsTrue, [], Some, IfSome, OnErr, OnOk, drop, is_some, option_map};
+ghost use Rattle.rad_desk.specs.Resuming.{is_held};
+ghost use Rattle.rad_lane.specs.Accepts.{request_key};
 ghost use Rattle.rad_desk.specs.Traffic.{FitsRoom};
-ghost use Rattle.spool_writer.specs.Offers.{Waits, HasWaiting, IsFirstOf, IsGivenAs, first_in, waiting_at};
+ghost use Rattle.spool_writer.specs.Offers.{Waits, RequestWaits, HasWaiting, BecomesFor, IsFirstOf, IsGivenAs, first_in, is_taken, number_at, waiting_at, waiting_for};
 
-use crate::offer_notes::{Fate, OfferNotes};
-use rad_desk::{Received, Traffic, WaitingRequests};
-use rad_realms::{Config, Dropped, Endpoint, Incoming, check_in};
+use crate::offer_notes::{Fate, Freed, OfferNotes};
+use crate::parcel::Parcel;
+use crate::waiting_keys::{WAITS, WaitingKeys, WaitingRequest};
+use rad_desk::{Hold, Received, Traffic, WaitingRequests};
+use rad_lane::Refusal;
+use rad_realms::{Checked, Config, Dropped, Endpoint, Incoming, check_in};
+use rad_tables::Key;
 use spool_files::{Came, OpenRequest};
 use std::alloc::{AllocError, Global};
 use std::collections::VecDeque;
 use std::sync::Arc;
 use std::time::{Clock, Duration, Instant};
 
-/// How many milliseconds a lane is left alone whose book is full, or which lacks memory.
+/// How many milliseconds a lane is left alone for which memory was refused.
 const PAUSE: u64 = 1000;
 
 /// The requests that earlier runs left, for each lane in the order in which they came. Each comes in again until its lane
 /// takes it, or refuses it for another reason than want of room.
 ///
-/// A lane that has no room is left alone until it has answered a request, or for a second if its book is full. Meanwhile a
-/// datagram that came has to wait if it is a request of a lane of which requests wait.
+/// A lane that has no room gets no more of them than places become free, and none for a second if memory was refused.
+/// Meanwhile a datagram that came has to wait if it is a request of a lane of which requests wait, and no repeat of one that was
+/// taken: it comes in behind these. As many such ones wait as the lane's queue has places.
 #[derive(Drop)]
 pub struct Offers<'a, R> {
     clock: &'a R,
+    alloc: Global,
     config: &'a Config,
     /// Those of each lane, while a request waits.
     lanes: Option<Vec<LaneOffers>>,
+    /// The keys of all that wait.
+    keys: WaitingKeys,
     /// The lane that is looked at next.
     turn: usize,
-    /// The lane of the request that was given last, until it is known what became of it.
-    given: Option<usize>,
+    /// The request that was given last, until it is known what became of it.
+    given: Option<Given>,
     notes: Arc<OfferNotes>,
     /// What was given so far. Only clauses see it, and it takes no memory.
     traffic: Traffic,
@@ -39,7 +49,7 @@ pub struct Offers<'a, R> {
 /// The requests of a lane that wait.
 #[derive(Drop)]
 pub(crate) struct LaneOffers {
-    pub(crate) requests: VecDeque<OpenRequest>,
+    pub(crate) requests: VecDeque<WaitingRequest>,
     pub(crate) pause: Pause,
 }
 
@@ -48,12 +58,33 @@ pub(crate) struct LaneOffers {
 pub(crate) enum Pause {
     /// It is not.
     Over,
-    /// Until it has answered more requests than so many.
-    Answers(u64),
-    /// The same, or until a second after this moment has passed.
-    Moment(u64, Option<Instant>),
+    /// Until more than so many places of its queue became free.
+    Queue(u64),
+    /// Until more than so many places of its book became free.
+    Book(u64),
+    /// Until a second after this moment has passed.
+    Moment(Option<Instant>),
     /// Until the end.
     ForGood,
+}
+
+impl Pause {
+    /// Returns that of a lane that took one more.
+    fn after_taking(self) -> Pause {
+        match self {
+            Pause::Queue(count) => Pause::Queue(count.saturating_add(1)),
+            Pause::Book(count) => Pause::Book(count.saturating_add(1)),
+            _ => Pause::Over,
+        }
+    }
+}
+
+/// A request that was given.
+#[derive(Clone, Copy)]
+struct Given {
+    lane: usize,
+    /// The places that had become free in its lane before.
+    freed: Freed,
 }
 
 impl<'a, R: Clock> Offers<'a, R> {
@@ -71,13 +102,13 @@ impl<'a, R: Clock> Offers<'a, R> {
         notes: Arc<OfferNotes>,
     ) -> Result<(Offers<'a, R>, Vec<Unfit>), AllocError> {
         let mut lanes = no_offers(alloc, config.homes().len())?;
+        let mut keys = WaitingKeys::new(alloc, config)?;
         let mut unfit = Vec::new(alloc);
-        let mut is_done = true;
         for request in requests {
             match lane_of(config, &request) {
                 Ok(lane) => {
-                    add(&mut lanes, lane, request)?;
-                    is_done = false;
+                    keys.add(&request.came.key)?;
+                    push(&mut lanes, lane, waiting_request(request))?;
                 }
                 Err(reason) => unfit.push(Unfit {
                     came: request.came,
@@ -85,12 +116,20 @@ impl<'a, R: Clock> Offers<'a, R> {
                 })?,
             }
         }
-        notes.set_waiting(!is_done);
+        let is_done = are_done(&lanes);
+        if !is_done {
+            for key in notes.answered() {
+                keys.add_answered(key)?;
+            }
+        }
+        notes.set_waiting(keys.count());
         Ok((
             Offers {
                 clock,
                 config,
                 lanes: if is_done { None } else { Some(lanes) },
+                alloc,
+                keys,
                 turn: 0,
                 given: None,
                 notes,
@@ -104,28 +143,37 @@ impl<'a, R: Clock> Offers<'a, R> {
     fn settle(&mut self)
         ensures { self.new.traffic ≡ self.old.traffic }
     {
-        let Some(lane) = self.given else {
+        let Some(given) = self.given else {
             return;
         };
         self.given = None;
-        let pause = self.pause_of(lane);
+        let fate = self.notes.fate();
+        let pause = self.pause_of(given, fate);
         let Some(lanes) = &mut self.lanes else {
             return;
         };
-        settle_lane(lanes, lane, pause);
+        match pause {
+            Some(pause) => pause_lane(lanes, given.lane, pause),
+            None => {
+                if let Some(request) = take_first(lanes, given.lane, fate) {
+                    self.keys.leave(given.lane, &request, fate != Fate::Over);
+                }
+            }
+        }
+        self.notes.set_waiting(self.keys.count());
         if are_done(lanes) {
             self.lanes = None;
-            self.notes.set_waiting(false);
+            self.keys.clear();
         }
     }
 
-    /// Returns until when a lane is to be left alone, since it had no room for the request that was given last, if that is so.
-    fn pause_of(&self, lane: usize) -> Option<Pause> {
-        let answers = self.notes.answers(lane);
-        match self.notes.fate() {
-            Fate::Taken | Fate::Refused => None,
-            Fate::QueueFull => Some(Pause::Answers(answers)),
-            Fate::NoRoom => Some(Pause::Moment(answers, Instant::now(self.clock).ok())),
+    /// Returns until when a lane is to be left alone, if it had no room for the request that was given last.
+    fn pause_of(&self, given: Given, fate: Fate) -> Option<Pause> {
+        match fate {
+            Fate::Taken | Fate::Known | Fate::Over => None,
+            Fate::QueueFull => Some(Pause::Queue(given.freed.queue)),
+            Fate::BookFull => Some(Pause::Book(given.freed.book)),
+            Fate::NoMemory => Some(Pause::Moment(Instant::now(self.clock).ok())),
             Fate::Drained => Some(Pause::ForGood),
         }
     }
@@ -137,16 +185,15 @@ impl<'a, R: Clock> Offers<'a, R> {
         };
         match offers.pause {
             Pause::Over => false,
-            Pause::Answers(count) => self.notes.answers(lane) == count,
-            Pause::Moment(count, since) => {
-                self.notes.answers(lane) == count && !is_past(self.clock, since)
-            }
+            Pause::Queue(count) => self.notes.freed(lane).queue <= count,
+            Pause::Book(count) => self.notes.freed(lane).book <= count,
+            Pause::Moment(since) => !is_past(self.clock, since),
             Pause::ForGood => true,
         }
     }
 
     /// Returns the request of a lane that waits and came first, unless none waits or the lane is left alone.
-    fn first_of(&self, lane: usize) -> Option<&OpenRequest>
+    fn first_of(&self, lane: usize) -> Option<&WaitingRequest>
         ensures { IfSome result (λ request. first_in (option_map (λ lanes. lanes.items) self.now.lanes) lane ≡ Some request.now) }
     {
         match &self.lanes {
@@ -155,7 +202,7 @@ impl<'a, R: Clock> Offers<'a, R> {
         }
     }
 
-    fn first_among<'b>(&self, lanes: &'b [LaneOffers], lane: usize) -> Option<&'b OpenRequest>
+    fn first_among<'b>(&self, lanes: &'b [LaneOffers], lane: usize) -> Option<&'b WaitingRequest>
         ensures { IfSome result (λ request. waiting_at lanes.now lane ≡ Some request.now) }
     {
         if self.is_paused(lanes, lane) {
@@ -175,8 +222,9 @@ impl<'a, R: Clock> Offers<'a, R> {
             return None;
         };
         let given = give(first, datagram);
+        let freed = self.notes.freed(lane);
         self.notes.begin();
-        self.given = Some(lane);
+        self.given = Some(Given { lane, freed });
         Some(given)
     }
 
@@ -201,7 +249,7 @@ impl<'a, R: Clock> Offers<'a, R> {
 impl<R: Clock> WaitingRequests for Offers<'_, R> {
     ghost given = { λ offers. Some offers.traffic.passed };
 
-    ghost waits = { λ offers. Waits offers.config.now (HasWaiting (option_map (λ lanes. lanes.items) offers.lanes)) };
+    ghost waits = { λ offers. Waits offers.config.now (HasWaiting (option_map (λ lanes. lanes.items) offers.lanes)) (number_at offers.keys.numbers) };
 
     fn give(&mut self, datagram: &mut [u8; 4096]) -> Received {
         if self.lanes.is_none() {
@@ -222,59 +270,154 @@ impl<R: Clock> WaitingRequests for Offers<'_, R> {
         given
     }
 
-    fn holds(&self, from: Endpoint, octets: &[u8]) -> bool {
-        let Some(lanes) = &self.lanes else {
-            return false;
-        };
-        match check_in(self.config, from.address, from.port, octets) {
-            Ok(Incoming::Request(request)) => self.holds_for(lanes, request.lane()),
+    fn hold(&mut self, from: Endpoint, socket: u16, octets: &[u8]) -> Hold {
+        if self.lanes.is_none() {
+            return Hold::Passes;
+        }
+        let config = self.config;
+        match check_in(config, from.address, from.port, octets) {
+            Ok(Incoming::Request(request)) => self.hold_request(&request, socket),
             Ok(Incoming::Status(status)) => {
                 let _ = &status;
-                false
+                Hold::Passes
             }
-            Err(_) => false,
+            Err(_) => Hold::Passes,
         }
     }
 }
 
 impl<R> Offers<'_, R> {
-    /// Returns whether requests of a lane wait. Counts a datagram that has to wait for that.
-    fn holds_for(&self, lanes: &[LaneOffers], lane: u16) -> bool
-        ensures { result ≡ is_some (waiting_at lanes.now lane) }
+    /// Keeps a request that came to the socket of this index if it has to wait.
+    fn hold_request(&mut self, request: &Checked<'_>, socket: u16) -> Hold
+        ensures waits { RequestWaits (HasWaiting (option_map (λ lanes. lanes.items) self.new.lanes)) (number_at self.new.keys.numbers) request.now (is_held result) }
+        ensures config { self.new.config ≡ self.old.config }
+        ensures given { self.new.traffic ≡ self.old.traffic }
     {
-        let is_held = is_waiting(lanes, usize::from(lane));
-        if is_held {
-            self.notes.hold();
+        let number = self.keys.numbers.find(&Parcel::key_of(request));
+        if !self.has_waiting(usize::from(request.lane())) || is_taken(number) {
+            return Hold::Passes;
         }
-        is_held
+        self.put_behind(request, socket, number)
+    }
+
+    /// Returns whether requests of a lane wait.
+    fn has_waiting(&self, lane: usize) -> bool
+        ensures waits { IsTrue result ↔ HasWaiting (option_map (λ lanes. lanes.items) self.now.lanes) lane }
+    {
+        match &self.lanes {
+            Some(lanes) => is_waiting(lanes, lane),
+            None => false,
+        }
+    }
+
+    /// Puts a request that came to the socket of this index behind those of its lane that wait, unless it repeats one of them,
+    /// or is refused.
+    fn put_behind(&mut self, request: &Checked<'_>, socket: u16, number: Option<u64>) -> Hold
+        ensures held { is_held result ≡ true }
+        ensures waits { HasWaiting (option_map (λ lanes. lanes.items) self.old.lanes) request.now.lane → HasWaiting (option_map (λ lanes. lanes.items) self.new.lanes) request.now.lane }
+        ensures untaken { is_taken (number_at self.old.keys.numbers (request_key request.now)) ≡ false → is_taken (number_at self.new.keys.numbers (request_key request.now)) ≡ false }
+        ensures config { self.new.config ≡ self.old.config }
+        ensures given { self.new.traffic ≡ self.old.traffic }
+    {
+        self.notes.hold();
+        if number.is_some() {
+            return Hold::Repeats;
+        }
+        let key = Parcel::key_of(request);
+        let lane = usize::from(request.lane());
+        if self.is_drained(lane) {
+            return Hold::Refused(Refusal::Draining);
+        }
+        if !self.keys.has_room(lane) {
+            return Hold::Refused(Refusal::QueueFull);
+        }
+        match self.put(lane, key, socket, request.packet().octets()) {
+            Ok(()) => {
+                self.notes.set_waiting(self.keys.count());
+                Hold::Waits
+            }
+            Err(AllocError) => Hold::Refused(Refusal::OutOfMemory),
+        }
+    }
+
+    /// Puts a request behind those of its lane.
+    ///
+    /// # Errors
+    ///
+    /// `AllocError` if memory is refused. Then the same requests wait.
+    #[tactic(auto, using(crate::proofs::KeysOfWaiting::untaken_waiting, crate::proofs::KeysOfWaiting::untaken_removed))]
+    fn put(&mut self, lane: usize, key: Key, socket: u16, octets: &[u8]) -> Result<(), AllocError>
+        ensures waits { HasWaiting (option_map (λ lanes. lanes.items) self.old.lanes) lane → HasWaiting (option_map (λ lanes. lanes.items) self.new.lanes) lane }
+        ensures untaken { is_taken (number_at self.old.keys.numbers key) ≡ false → is_taken (number_at self.new.keys.numbers key) ≡ false }
+        ensures config { self.new.config ≡ self.old.config }
+        ensures given { self.new.traffic ≡ self.old.traffic }
+    {
+        let mut kept = Vec::new(self.alloc);
+        kept.extend_from_slice(octets)?;
+        let request = WaitingRequest {
+            key,
+            socket,
+            octets: kept,
+            came: None,
+        };
+        let Some(lanes) = &mut self.lanes else {
+            return Ok(());
+        };
+        self.keys.add_newer(lane, &key)?;
+        if push(lanes, lane, request).is_err() {
+            self.keys.remove_newer(lane, &key);
+            return Err(AllocError);
+        }
+        Ok(())
+    }
+
+    /// Returns whether a lane takes no new request any more.
+    fn is_drained(&self, lane: usize) -> bool {
+        let Some(lanes) = &self.lanes else {
+            return false;
+        };
+        match lanes.get(lane) {
+            Some(offers) => matches!(offers.pause, Pause::ForGood),
+            None => false,
+        }
     }
 }
 
 /// Gives a request.
-fn give(request: &OpenRequest, datagram: &mut [u8; 4096]) -> Received
+fn give(request: &WaitingRequest, datagram: &mut [u8; 4096]) -> Received
     ensures given { IsGivenAs request.now datagram.new result }
     ensures fits { FitsRoom result }
 {
     let octets = request.octets.as_slice();
     let count = octets.len().min(4096);
     datagram[..count].copy_from_slice(&octets[..count]);
-    let address = request.came.key.client;
-    let port = request.came.key.port;
+    let address = request.key.client;
+    let port = request.key.port;
     Received::Got {
         address,
         port,
-        socket: 0,
+        socket: request.socket,
         count,
     }
 }
 
 /// Returns the request of a lane that waits and came first, if one waits.
-fn first_waiting(lanes: &[LaneOffers], lane: usize) -> Option<&OpenRequest>
+fn first_waiting(lanes: &[LaneOffers], lane: usize) -> Option<&WaitingRequest>
     ensures { option_map (λ request. request.now) result ≡ waiting_at lanes.now lane }
 {
     match lanes.get(lane) {
         Some(offers) => offers.requests.front(),
         None => None,
+    }
+}
+
+/// Returns whether this is the number of a request that was taken.
+fn is_taken(number: Option<u64>) -> bool
+    ensures { result ≡ is_taken number }
+{
+    match number {
+        Some(number) => number != WAITS,
+        None => false,
     }
 }
 
@@ -285,17 +428,54 @@ fn is_waiting(lanes: &[LaneOffers], lane: usize) -> bool
     first_waiting(lanes, lane).is_some()
 }
 
-/// Has a lane be left alone, or takes away its first request.
-fn settle_lane(lanes: &mut [LaneOffers], lane: usize, pause: Option<Pause>) {
-    let Some(offers) = lanes.get_mut(lane) else {
-        return;
-    };
-    match pause {
-        Some(pause) => offers.pause = pause,
-        None => {
-            offers.requests.pop_front();
-            offers.pause = Pause::Over;
+fn pause_lane(lanes: &mut [LaneOffers], lane: usize, pause: Pause)
+    ensures { (other : ℕ) → waiting_for lanes.new other ≡ waiting_for lanes.old other }
+{
+    if lane < lanes.len() {
+        let offers = &mut lanes[lane];
+        offers.pause = pause;
+    }
+}
+
+/// Takes away the first request of a lane.
+fn take_first(lanes: &mut [LaneOffers], lane: usize, fate: Fate) -> Option<WaitingRequest>
+    ensures { BecomesFor lanes.old lanes.new lane (drop 1 (waiting_for lanes.old lane)) }
+{
+    if lane >= lanes.len() {
+        return None;
+    }
+    let offers = &mut lanes[lane];
+    offers.take_first(fate)
+}
+
+/// Puts a request behind those of a lane.
+fn push(lanes: &mut Vec<LaneOffers>, lane: usize, request: WaitingRequest) -> Result<(), AllocError>
+    ensures put { lane < length lanes.old.items → OnOk result (BecomesFor lanes.old.items lanes.new.items lane (waiting_for lanes.old.items lane ++ request ∷ [])) }
+    ensures same { OnErr result (BecomesFor lanes.old.items lanes.new.items lane (waiting_for lanes.old.items lane)) }
+    ensures waits { IsTrue (is_some (waiting_at lanes.old.items lane)) → IsTrue (is_some (waiting_at lanes.new.items lane)) }
+{
+    if lane >= lanes.len() {
+        return Ok(());
+    }
+    let offers = &mut lanes[lane];
+    offers.push(request)
+}
+
+impl LaneOffers {
+    fn take_first(&mut self, fate: Fate) -> Option<WaitingRequest>
+        ensures { self.new.requests.items ≡ drop 1 self.old.requests.items }
+    {
+        if fate == Fate::Taken {
+            self.pause = self.pause.after_taking();
         }
+        self.requests.pop_front()
+    }
+
+    fn push(&mut self, request: WaitingRequest) -> Result<(), AllocError>
+        ensures put { OnOk result (self.new.requests.items ≡ self.old.requests.items ++ request ∷ []) }
+        ensures same { OnErr result (self.new.requests.items ≡ self.old.requests.items) }
+    {
+        Ok(self.requests.push_back(request)?)
     }
 }
 
@@ -349,10 +529,13 @@ fn lane_of(config: &Config, request: &OpenRequest) -> Result<usize, Option<Dropp
     }
 }
 
-fn add(lanes: &mut [LaneOffers], lane: usize, request: OpenRequest) -> Result<(), AllocError> {
-    match lanes.get_mut(lane) {
-        Some(offers) => Ok(offers.requests.push_back(request)?),
-        None => Ok(()),
+fn waiting_request(request: OpenRequest) -> WaitingRequest {
+    let OpenRequest { came, octets } = request;
+    WaitingRequest {
+        key: came.key,
+        socket: 0,
+        octets,
+        came: Some(came),
     }
 }
 

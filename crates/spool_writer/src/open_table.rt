@@ -4,6 +4,14 @@ use rad_tables::Key;
 use std::alloc::{AllocError, Global};
 use std::collections::BTreeMap;
 
+/// In place of a segment's number: a batch that could not be appended may be on disk all the same.
+pub(crate) const MAY_BE: u64 = u64::MAX;
+
+/// Returns whether a batch of this segment that is on disk has a request.
+fn is_synced(segment: u64) -> bool {
+    segment != 0 && segment != MAY_BE
+}
+
 /// Where a request stands that is open.
 #[derive(Clone, Copy, PartialEq, Eq)]
 pub(crate) struct Place {
@@ -11,7 +19,7 @@ pub(crate) struct Place {
     pub(crate) arrival: u64,
     /// When it came in, in milliseconds since 1970.
     pub(crate) moment: u64,
-    /// The number of the segment of which a batch that is on disk has it; 0 if it is in none.
+    /// The number of the segment of which a batch that is on disk has it; 0 if it is in none; [`MAY_BE`] if one may have it.
     pub(crate) segment: u64,
     /// How many octets it has.
     pub(crate) octets: u64,
@@ -78,7 +86,7 @@ impl OpenTable {
             return Err(AllocError);
         }
         self.octets = self.octets.saturating_add(place.octets);
-        if place.segment == 0 {
+        if !is_synced(place.segment) {
             self.unsynced = self.unsynced.saturating_add(1);
         }
         Ok(())
@@ -89,7 +97,7 @@ impl OpenTable {
         let place = self.places.remove(key)?;
         self.moments.remove(&place.arrival);
         self.octets = self.octets.saturating_sub(place.octets);
-        if place.segment == 0 {
+        if !is_synced(place.segment) {
             self.unsynced = self.unsynced.saturating_sub(1);
         }
         Some(place)
@@ -100,7 +108,7 @@ impl OpenTable {
         let place = self.places.get_mut(key)?;
         let before = place.segment;
         place.segment = segment;
-        if before == 0 && segment != 0 {
+        if !is_synced(before) && is_synced(segment) {
             self.unsynced = self.unsynced.saturating_sub(1);
         }
         Some(before)

@@ -264,10 +264,12 @@ impl FoundSpool {
                 self.greatest = self.greatest.max(came.arrival);
             }
             if let Some(moment) = moment_of(&head) {
-                segment.see(moment);
+                // An entry of a clock that was ahead counts as one of now.
+                segment.see(moment.min(now));
             }
         }
         segment.open = self.enter_open(before, segment.number)?;
+        segment.is_damaged = !read.faults.is_empty();
         self.segments.push(segment)?;
         for fault in read.faults.iter().rev() {
             self.faults.push(*fault)?;
@@ -323,8 +325,13 @@ fn open_ends<'a, R: Clock, D: SpoolDisk + Drop>(
         answers,
         ..
     } = counted;
-    let state = Arc::new(alloc, SpoolState::new())?;
-    let notes = Arc::new(alloc, OfferNotes::new(alloc, lanes)?)?;
+    let mut answered = Vec::with_capacity(alloc, answers.len())?;
+    for answer in answers.iter() {
+        answered.push(answer.answered.key)?;
+    }
+    let notes = Arc::new(alloc, OfferNotes::new(alloc, lanes, answered)?)?;
+    let now = time_since_1970(rt).unwrap_or(0);
+    let state = Arc::new(alloc, SpoolState::new(now, Arc::try_clone(&notes)?))?;
     let (asked, taken_requests) = RingBuffer::new(alloc, PLACES)?;
     let (answered, taken_responses) = RingBuffer::new(alloc, PLACES)?;
     let inlet = SpoolInlet {
@@ -345,7 +352,6 @@ fn open_ends<'a, R: Clock, D: SpoolDisk + Drop>(
         run,
         time: 0,
         state: Arc::try_clone(&state)?,
-        notes: Arc::try_clone(&notes)?,
     };
     let next = match segments.last() {
         Some(last) => last.number.saturating_add(1),
@@ -359,7 +365,8 @@ fn open_ends<'a, R: Clock, D: SpoolDisk + Drop>(
         table,
         segments,
         next,
-        may_remove: faults.is_empty(),
+        may_remove: true,
+        taken: 0,
         state: Arc::try_clone(&state)?,
     };
     Ok(OpenedSpool {

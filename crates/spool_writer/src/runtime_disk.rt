@@ -5,7 +5,7 @@ use crate::fault::{SpoolFault, system_number};
 use libc::{LOCK_EX, LOCK_NB, flock};
 use spool_files::{
     LoggedFile, SegmentFile, find_segment, make_folder, make_segment, remove_segment,
-    segment_numbers,
+    segment_numbers, set_segment_aside,
 };
 use std::alloc::{AllocGlobal, Global};
 use std::fs::{self, Files, OpenFile, OpenOptions};
@@ -123,5 +123,9 @@ where
 
     fn remove(&self, alloc: Global, folder: &str, number: u64) -> io::Result<()> {
         remove_segment(&self.rt, alloc, folder, number)
+    }
+
+    fn set_aside(&self, alloc: Global, folder: &str, number: u64) -> io::Result<()> {
+        set_segment_aside(&self.rt, alloc, folder, number)
     }
 }

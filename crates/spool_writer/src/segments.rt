@@ -15,6 +15,8 @@ pub(crate) struct SegmentState {
     pub(crate) newest: u64,
     /// Whether an entry about a request is in it.
     pub(crate) has_entries: bool,
+    /// Whether something is wrong with it.
+    pub(crate) is_damaged: bool,
 }
 
 impl SegmentState {
@@ -26,6 +28,7 @@ impl SegmentState {
             open: 0,
             newest: 0,
             has_entries: false,
+            is_damaged: false,
         }
     }
 

@@ -193,6 +193,10 @@ impl SpoolDisk for MemoryDisk {
         }
         Ok(())
     }
+
+    fn set_aside(&self, alloc: Global, folder: &str, number: u64) -> io::Result<()> {
+        self.remove(alloc, folder, number)
+    }
 }
 
 /// The front's ends of the rings, and a writer at work.
@@ -320,6 +324,11 @@ impl<D: SpoolDisk + Drop> Bench<'_, D> {
         self.session.its.state.reading(10_000)
     }
 
+    /// Returns whether all is on disk that was put before so many rounds.
+    fn has_all(&self, rounds: u64) -> bool {
+        self.session.its.state.has_all(rounds)
+    }
+
     /// Returns whether exactly these requests were open at the start, in this order.
     fn had(&self, numbers: &[u64]) -> bool {
         let mut is_right = self.left.len() == numbers.len();
@@ -400,6 +409,7 @@ fn the_same_request_is_open_again_behind_its_answer(rt: HostRuntime) {
     holds(&rt, is_right);
 }
 
+/// Also the answer to the second request, which may be on disk.
 #[test]
 fn what_came_while_the_disk_failed_is_written_later(rt: HostRuntime) {
     let is_right = plays(&rt, AMPLE, fails_and_is_back, &[3]);
@@ -421,8 +431,37 @@ fn fails_and_is_back(bench: &mut Bench<'_, MemoryDisk>, memory: &Memory) -> bool
     let has_begun = first.written == 1 && !first.is_failing;
     let has_failed = second.is_failing && second.unsynced == 2 && second.faults == 1;
     let still_fails = third.is_failing && third.unsynced == 1 && third.faults == 2;
-    let is_back = !fourth.is_failing && fourth.unsynced == 0 && fourth.written == 3;
+    let is_back = !fourth.is_failing && fourth.unsynced == 0 && fourth.written == 4;
     has_begun && has_failed && still_fails && is_back
+}
+
+/// That all is on disk is known two rounds after it is asked, and not while the disk fails.
+#[test]
+fn all_is_on_disk_two_rounds_later(rt: HostRuntime) {
+    let is_right = plays(&rt, AMPLE, has_all_later, &[1, 2]);
+    holds(&rt, is_right);
+}
+
+fn has_all_later(bench: &mut Bench<'_, MemoryDisk>, memory: &Memory) -> bool {
+    bench.go_on();
+    let rounds = bench.session.its.state.rounds();
+    bench.ask(1, 1000, false);
+    let at_once = bench.has_all(rounds);
+    bench.go_on();
+    let after_one = bench.has_all(rounds);
+    bench.go_on();
+    let after_two = bench.has_all(rounds);
+    memory.set_failing(true);
+    bench.ask(2, 1000, false);
+    bench.go_on();
+    bench.go_on();
+    let while_it_fails = bench.has_all(rounds);
+    memory.set_failing(false);
+    bench.go_on();
+    let once_back = bench.has_all(rounds);
+    bench.session.its.state.count_lost_request();
+    let with_one_lost = bench.has_all(rounds);
+    !at_once && !after_one && after_two && !while_it_fails && once_back && !with_one_lost
 }
 
 #[test]

@@ -3,7 +3,7 @@
 use crate::appender::Appender;
 use crate::disk::SpoolDisk;
 use crate::fault::{SpoolFault, append_fault, device_fault, system_number};
-use crate::open_table::{OpenTable, Place};
+use crate::open_table::{MAY_BE, OpenTable, Place};
 use crate::opening::SpoolPlace;
 use crate::outlet::SpoolOutlet;
 use crate::parcel::Parcel;
@@ -17,6 +17,7 @@ use spool_files::{
     recover,
 };
 use std::alloc::{AllocError, Global};
+use std::io::ErrorKind;
 use std::marker::Sync;
 use std::sync::{Arc, Wait};
 use std::thread::{self, Threads};
@@ -27,6 +28,9 @@ const PAUSE: u64 = 50;
 
 /// How many milliseconds after a fault the thread tries again.
 const AGAIN: u64 = 1000;
+
+/// After how many rounds the thread looks whether the newest segment is still there.
+const LOOK: u64 = 20;
 
 /// How many octets a request has at most.
 const GREATEST_REQUEST: usize = 4096;
@@ -48,8 +52,10 @@ pub struct SpoolWriter {
     pub(crate) segments: Vec<SegmentState>,
     /// The number of the next segment.
     pub(crate) next: u64,
-    /// Whether segments may be removed: nothing is wrong with any.
+    /// Whether segments may be removed: the system has refused no removal.
     pub(crate) may_remove: bool,
+    /// How many requests were taken out of the ring.
+    pub(crate) taken: u64,
     pub(crate) state: Arc<SpoolState>,
 }
 
@@ -68,6 +74,10 @@ pub(crate) struct Session<'a, R, D: SpoolDisk + Drop> {
     body: Vec<u8>,
     /// Whether the last round failed.
     is_failing: bool,
+    /// Whether a batch could not be appended that may be on disk all the same.
+    is_torn: bool,
+    /// How many rounds remain to the next look whether the newest segment is there.
+    rounds: u64,
 }
 
 /// Puts a request once more. No segment has a longer one.
@@ -123,6 +133,8 @@ impl<'a, R, D: SpoolDisk + Drop> Session<'a, R, D> {
             waiting: Vec::new(alloc),
             body: Vec::new(alloc),
             is_failing: false,
+            is_torn: false,
+            rounds: LOOK,
         }
     }
 }
@@ -142,6 +154,7 @@ impl<R: Clock, D: SpoolDisk + Drop> Session<'_, R, D> {
 
     /// Takes what came, writes it, and removes what no longer counts. Reports whether that failed.
     pub(crate) fn do_round(&mut self) {
+        let began = self.now();
         match self.write_round() {
             Ok(()) => self.succeed(),
             Err(fault) => self.fail(fault),
@@ -149,7 +162,9 @@ impl<R: Clock, D: SpoolDisk + Drop> Session<'_, R, D> {
         let its = &self.its;
         its.state.end_round(RoundEnd {
             open: its.table.len() as u64,
+            taken: its.taken,
             unsynced: its.table.unsynced(),
+            synced: (!self.is_failing).then_some(began),
             waiting: self.waiting.len() as u64,
             oldest: its.table.oldest(),
             octets: total(&its.segments),
@@ -176,11 +191,33 @@ impl<R: Clock, D: SpoolDisk + Drop> Session<'_, R, D> {
     /// Removal goes on while the disk is full, since it makes room.
     fn write_round(&mut self) -> Result<(), SpoolFault> {
         let taken = self.take_all();
+        self.look_for_newest()?;
         let written = self.write_all_waiting();
         let removed = self.remove_old();
         taken?;
         written?;
         removed
+    }
+
+    /// Looks from time to time whether the newest segment is still there. If somebody removed it, all that is open counts as
+    /// lost, and a new segment is begun.
+    fn look_for_newest(&mut self) -> Result<(), SpoolFault> {
+        self.rounds = self.rounds.saturating_sub(1);
+        if self.rounds > 0 || self.segment.is_none() {
+            return Ok(());
+        }
+        self.rounds = LOOK;
+        let folder = self.its.place.folder.as_str();
+        let fault = match self.disk.numbers(self.alloc, folder) {
+            Ok(numbers) if numbers.last().copied() >= Some(self.newest_number()) => return Ok(()),
+            Ok(_) => SpoolFault::Read(0),
+            Err(error) => SpoolFault::Read(system_number(&error)),
+        };
+        self.segment = None;
+        for _ in 0..self.its.table.len() {
+            self.its.state.count_lost_request();
+        }
+        Err(fault)
     }
 
     /// Writes all that waits. After a fault it begins a segment, even if nothing waits.
@@ -210,6 +247,7 @@ impl<R: Clock, D: SpoolDisk + Drop> Session<'_, R, D> {
                 break;
             };
             if self.enter(parcel).is_err() {
+                self.its.state.count_lost_request();
                 outcome = Err(SpoolFault::Memory);
             }
         }
@@ -220,7 +258,10 @@ impl<R: Clock, D: SpoolDisk + Drop> Session<'_, R, D> {
     fn enter(&mut self, parcel: Parcel) -> Result<(), AllocError> {
         let mut closes = 0;
         let is_written = match &parcel.head {
-            Head::Came(came) => self.open(came, parcel.octets.as_slice().len())?,
+            Head::Came(came) => {
+                self.its.taken = self.its.taken.saturating_add(1);
+                self.open(came, parcel.octets.as_slice().len())?
+            }
             Head::Answered(answered) => {
                 let key = answered.key;
                 closes = self.close(&key);
@@ -299,11 +340,29 @@ impl<R: Clock, D: SpoolDisk + Drop> Session<'_, R, D> {
         let Ok(count) = put_entries(&mut self.body, &self.waiting, BATCH) else {
             return Err(SpoolFault::Memory);
         };
-        self.append_body()?;
+        if let Err(fault) = self.append_body() {
+            self.doubt(count);
+            return Err(fault);
+        }
         self.settle(count);
         let count = count.min(self.waiting.len());
         self.waiting.drain(..count);
         Ok(())
+    }
+
+    /// Notes that the first requests of what waits may be on disk, if their batch may: their answers are to be written then.
+    fn doubt(&mut self, count: usize) {
+        if !self.is_torn {
+            return;
+        }
+        self.is_torn = false;
+        for waiting in self.waiting.iter().take(count) {
+            if let Head::Came(came) = &waiting.parcel.head
+                && is_open(&self.its.table, came)
+            {
+                self.its.table.move_to(&came.key, MAY_BE);
+            }
+        }
     }
 
     /// Notes that the first of what waits are in a batch that is on disk.
@@ -377,6 +436,7 @@ impl<R: Clock, D: SpoolDisk + Drop> Session<'_, R, D> {
             }
             Err(AppendError::Full) => Ok(false),
             Err(error) => {
+                self.is_torn = true;
                 self.remove_empty();
                 Err(append_fault(error))
             }
@@ -384,7 +444,8 @@ impl<R: Clock, D: SpoolDisk + Drop> Session<'_, R, D> {
     }
 
     fn keep_segment(&mut self, segment: Appender<D::Calls>) {
-        let octets = segment.octets();
+        // Behind the last batch stands the gate of the next one.
+        let octets = segment.octets().saturating_add(1);
         self.segment = Some(segment);
         if let Some(last) = self.its.segments.as_mut_slice().last_mut() {
             last.octets = octets;
@@ -399,7 +460,10 @@ impl<R: Clock, D: SpoolDisk + Drop> Session<'_, R, D> {
         let file = match self.disk.make(self.alloc, folder, number) {
             Ok(file) => file,
             Err(error) => {
-                let _ = self.disk.remove(self.alloc, folder, number);
+                // A file that was there already is another's.
+                if error.kind() != ErrorKind::AlreadyExists {
+                    let _ = self.disk.remove(self.alloc, folder, number);
+                }
                 return Err(SpoolFault::Create(system_number(&error)));
             }
         };
@@ -487,13 +551,19 @@ impl<R: Clock, D: SpoolDisk + Drop> Session<'_, R, D> {
         Ok(true)
     }
 
-    /// Removes the oldest segment. If that fails, a crash may bring it back, so no other is removed then.
+    /// Removes the oldest segment, or renames its file if that is damaged. If that fails, a crash may bring it back, so no
+    /// other is removed then.
     fn remove_oldest(&mut self) -> Result<(), SpoolFault> {
         let Some(oldest) = self.its.segments.first() else {
             return Ok(());
         };
         let folder = self.its.place.folder.as_str();
-        if let Err(error) = self.disk.remove(self.alloc, folder, oldest.number) {
+        let outcome = if oldest.is_damaged {
+            self.disk.set_aside(self.alloc, folder, oldest.number)
+        } else {
+            self.disk.remove(self.alloc, folder, oldest.number)
+        };
+        if let Err(error) = outcome {
             self.its.may_remove = false;
             return Err(SpoolFault::Write(system_number(&error)));
         }

@@ -2,6 +2,8 @@
 
 Their sums are put in by chained_cases.py.
 """
+import json
+
 from tests.lib import packets
 from tests.lib.ledger.cases import HOME, NAME, NO_MOMENTS, changed, config, counted, fates, lines_of, one, told, turned, two, with_code
 from tests.lib.ledgers import Lane, Run, text
@@ -29,6 +31,11 @@ LEFT_REASONS = {
     "accepted-at-no-moment": spoiled_left(lambda line: changed(line, accepted=NO_MOMENTS[0]), "NotEntry"),
     "left-at-no-moment": spoiled_left(lambda line: changed(line, time=NO_MOMENTS[6]), "NotEntry"),
     "two-users": spoiled_left(lambda line: changed(line, user_octets="00"), "NotEntry"),
+    **{f"kept-is-{name}": spoiled_left(lambda line, value=value: changed(line, kept=value), "NotEntry")
+       for name, value in {"false": False, "a-number": 1, "a-text": "true", "a-list": [True]}.items()},
+    "kept-is-null": spoiled_left(lambda line: json.dumps(line)[:-1] + ',"kept":null}', "NotEntry"),
+    "kept-twice": spoiled_left(lambda line: json.dumps(changed(line, kept=True))[:-1] + ',"kept":true}', "NotEntry"),
+    "kept-of-another-case": spoiled_left(lambda line: changed(line, Kept=True), "NotEntry"),
     "sendings-of-two-to-the-32": spoiled_left(lambda line: changed(line, sendings=2**32), "NotEntry"),
     **{f"left-without-{key}": spoiled_left(lambda line, key=key: changed(line, **{key: None}), "NotEntry")
        for key in ("run", "time", "home", "lane", "record", "client", "port", "identifier", "authenticator", "state", "request")},
@@ -64,6 +71,11 @@ def accounts():
     yield "some-are-left", {"ledger": text(lines)}, whole, 0
     more = [*lines[:4], *(changed(line, sendings=2, accepted=line["time"]) for line in lines[4:7]), lines[7]]
     yield "left-with-all-their-keys", {"ledger": text(more)}, whole, 0
+    kept = [*lines[:4], changed(lines[4], kept=True), {"kept": True, **lines[5]}, *lines[6:]]
+    yield "left-of-which-two-are-kept", {"ledger": text(kept)}, whole, 0
+    entry = [*lines[:2], changed(lines[2], kept=True), *lines[3:]]
+    yield "an-entry-that-is-kept", {"ledger": text(entry)}, [
+        "ledger:3: NotEntry", f"ledger:4: run {NAME:016x} lane 0 h1 gap 1 to 1", counted(0, "h1", 0, 2, "gap 1 to 1"), fates(6, 2, 3)], 5
     yield "left-before-they-are-answered", {"ledger": text([lines[0], *lines[4:7], *lines[1:4], lines[7]])}, whole, 0
     yield "left-and-open", {"ledger": text(lines[:-1])}, [counted(0, "h1", 0, 3, "open")], 6
     yield "left-behind-an-end", {"ledger": text([*lines[:6], lines[7], lines[6]])}, [counted(0, "h1", 0, 3, "contradicted"), fates(6, 3, 3)], 9

@@ -94,7 +94,7 @@ fn told<R: Clock + Wait>(
 ) -> Result<Vec<u64>, Fail> {
     let mut draft = Draft::new(alloc);
     draft.read(rt, table, numbers)?;
-    draft.write(config, numbers, None)?;
+    draft.write(config, numbers, None, None)?;
     let text = str::from_utf8(draft.text().as_slice()).unwrap_or("");
     Ok(values_of(alloc, text, metric)?)
 }

@@ -105,7 +105,7 @@ where
                 waiting,
                 memory,
             } = keepers;
-            let mut wire = ResumedWire::new(wire, waiting);
+            let mut wire = ResumedWire::new(wire, waiting, service.supervisor);
             service.work_in_front(
                 inlets.as_mut_slice(),
                 &mut wire,

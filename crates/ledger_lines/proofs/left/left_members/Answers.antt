@@ -10,5 +10,6 @@ returns c =
     let state = string_is c.state_text.result.now (state_text l.state) c.state_text.ensures c.in_ok-text.ensures in
     let sendings = number_if_is c.widened.result l.sendings c.widened.ensures c.in_ok-number_if_any.ensures in
     let asked = opens_then c.in_ok-lane_members.ensures c.in_ok-request_members.ensures in
-    let all = opens_then (opens_then (opens_then (opens_then asked state) sendings) c.in_ok-text_if_any.ensures) c.in_ok-digits.ensures in
-    closes c.end_object.result c.args.writer.now c.digits.new.writer c.end_object.new.self (left_slots l) all c.end_object.ensures
+    let packet = opens_then (opens_then (opens_then (opens_then asked state) sendings) c.in_ok-text_if_any.ensures) c.in_ok-digits.ensures in
+    let all = opens_then packet c.in_ok-true_if.ensures in
+    closes c.end_object.result c.args.writer.now c.true_if.new.writer c.end_object.new.self (left_slots l) all c.end_object.ensures

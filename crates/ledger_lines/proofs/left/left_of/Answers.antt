@@ -16,3 +16,6 @@ returns-in_err-accepted c = part _ _ _ c.from_residual-in_err-accepted.result c.
 
 pub returns-in_err-request : goal.returns-in_err-request
 returns-in_err-request c = part _ _ _ c.from_residual-in_err-request.result c.in_err-request.field-0.0 c.from_residual-in_err-request.ensures.1 c.in_err-request.ensures (λ p. (p.0.request.now, p.1.request))
+
+pub returns-in_err-kept : goal.returns-in_err-kept
+returns-in_err-kept c = part _ _ _ c.from_residual-in_err-kept.result c.in_err-kept.field-0.0 c.from_residual-in_err-kept.ensures.1 c.in_err-kept.ensures (λ p. (p.0.kept, p.1.kept))

@@ -9,7 +9,7 @@ pub returns-clause-value : goal.returns-clause-value
 returns-clause-value c =
     IfOk-weaker c.write_left.result
     (λ all. HasFrontBehind c.args.out.items all.items (left_value c.left_of-left.result))
-    (λ all. HasLeftBehind c.args.names.now c.args.parcel.now c.args.state c.args.out.items all.items)
+    (λ all. HasLeftBehind c.args.names.now c.args.parcel.now c.args.state c.args.kept c.args.out.items all.items)
     (λ all line. record {
       moment = c.as_str.result.now;
       since = option_copied c.lent.result;

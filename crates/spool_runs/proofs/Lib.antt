@@ -1,0 +1,14 @@
+pub mod Among
+pub mod Shuffled
+pub mod Counted
+pub mod Lives
+pub mod SpoolSame
+pub mod RunHas
+pub mod Written
+pub mod Started
+pub mod Recalled
+pub mod InOrder
+pub mod Read
+pub mod Crashes
+pub mod AfterOthers
+pub mod Kept
