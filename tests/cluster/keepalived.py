@@ -7,8 +7,10 @@ examples/cluster/keepalived, 60 access servers and a home server. --long has all
 the health check out, and then tests fail. It wants root, keepalived, nft and `ip`. The last line is `N passed, M failed`.
 """
 import time
+from collections import Counter
 
 from tests.lib import hope, need, until
+from tests.lib.cluster import load
 from tests.lib.cluster.machines import ADDRESS, PORT, proxy_text
 from tests.lib.cluster.recipes import Recipe, run, shown
 
@@ -91,6 +93,22 @@ class Nonlocal(Virtual):
     variant, listen = "nonlocal", f"{ADDRESS}:{PORT}"
 
 
+class Sharing(Virtual):
+    """Machines with one folder for the spool. That one runs the proxy which has the address."""
+
+    variant, listen = "spool", f"0.0.0.0:{PORT}"
+
+    def add(self, number):
+        machine = self.site.proxy(number)
+        self.instances[number] = machine, "rad_proxy"
+        machine.write("/etc/rad_proxy/environment", "export RAD_PROXY_SPOOL=/mnt/spool\n")
+        machine.write("/etc/rad_proxy/rad_proxy.toml", proxy_text(self.listen, number))
+
+    def link_home(self, state):
+        """Cuts the home server off, or links it again."""
+        self.site.router.run("ip", "link", "set", "home", state)
+
+
 def the_proxy_dies(cluster):
     """The address leaves a machine whose proxy was killed, and the next one's proxy is restarted, so that it answers from the address."""
     cluster.begin()
@@ -108,6 +126,24 @@ def the_machine_dies(cluster):
     cluster.begin()
     cluster.moves("death", cluster.die)
     cluster.holds()
+
+
+def what_waits_is_taken_over(cluster):
+    """A machine dies while the home server is away and the access servers have given up: the next one gives it each record, once."""
+    cluster.link_home("down")
+    cluster.begin(2)
+    cluster.load.nases.is_asking = False
+    until("the access servers have given up", lambda: not cluster.load.nases.out, 2 * load.WAIT[1] * load.TRIES)
+    cluster.die(1)
+    until("the second has the address", lambda: cluster.masters() == [2], 3 * SECONDS)
+    cluster.link_home("up")
+    records = {it.key for it in cluster.load.nases.records}
+    arrived = cluster.load.home.log
+    until("each record is at the home server", lambda: records <= {*arrived}, 40)
+    time.sleep(1)
+    times = Counter(len(arrived[key].requests) for key in records)
+    hope("records, by how often they came", (len(records) > 60, times), (True, {1: len(records)}))
+    hope("the machines that sent them", {number for key in records for number in arrived[key].instances()}, {2})
 
 
 def all_events(cluster):
@@ -130,8 +166,8 @@ def all_events_beside(cluster):
     all_events(cluster)
 
 
-SHORT, LONG = [the_proxy_dies, the_proxy_dies_beside, the_machine_dies], [all_events, all_events_beside]
-RECIPES = dict(zip([*SHORT, *LONG], [Restarting, Nonlocal, Nonlocal, Restarting, Nonlocal]))
+SHORT, LONG = [the_proxy_dies, the_proxy_dies_beside, the_machine_dies, what_waits_is_taken_over], [all_events, all_events_beside]
+RECIPES = dict(zip([*SHORT, *LONG], [Restarting, Nonlocal, Nonlocal, Sharing, Restarting, Nonlocal]))
 
 if __name__ == "__main__":
     run(RECIPES, SHORT, LONG, ["keepalived", "nft"], __doc__, TRIES)

@@ -2,7 +2,8 @@
 
 The whole of it stands in a namespace of networks and of mounts of the script that calls it (`inside`), so that nothing of it is left
 when the script has ended. The access servers are 10.20.0.1 to 10.20.0.60, behind the router. The router is 10.30.0.254, the home server
-10.30.0.200, and the proxies' machines are 10.30.0.11 and so on. A machine has the files of this one, but what it writes is its own.
+10.30.0.200, and the proxies' machines are 10.30.0.11 and so on. A machine has the files of this one, but what it writes is its own, except
+below /mnt, which all of them have.
 """
 import contextlib
 import ctypes
@@ -33,6 +34,7 @@ ROOT = """set -e
 mount -t overlay -o lowerdir={installed}:/,upperdir={room}/upper,workdir={room}/work none {room}/root
 cd {room}/root
 mount -t proc none proc && mount -t sysfs none sys && mount --bind /dev dev && mount -t tmpfs none run && mount -t tmpfs none tmp
+mount --bind {shared} mnt
 ip link set lo up
 exec chroot . "$1" -c "$2"
 """
@@ -43,6 +45,7 @@ word=$1 instance=${2%.service} config=rad_proxy
 case $instance in
 rad_proxy@*) config=${instance#*@} instance=rad_proxy-$config ;;
 esac
+[ ! -f /etc/rad_proxy/environment ] || . /etc/rad_proxy/environment
 pid=/run/$instance.pid
 case $word in
 is-active) kill -0 "$(cat "$pid")" 2>/dev/null ;;
@@ -104,7 +107,7 @@ class Machine:
         self.room = site.folder / name
         for part in ("upper", "work", "root"):
             (self.room / part).mkdir(parents=True)
-        script = ROOT.format(installed=site.installed, room=self.room)
+        script = ROOT.format(installed=site.installed, room=self.room, shared=site.shared)
         words = ["unshare", *ALONE, "sh", "-c", script, "sh", sys.executable, INIT]
         self.holder = subprocess.Popen(words, stdin=subprocess.DEVNULL, stdout=subprocess.PIPE, preexec_fn=end_with_parent)
         need(self.holder.stdout.readline() == b"\n", f"the machine {name} does not begin")
@@ -199,7 +202,8 @@ class Site:
     """All machines, and what is between them."""
 
     def __init__(self, program, folder):
-        self.folder, self.installed, self.machines = folder, folder / "installed", []
+        self.folder, self.installed, self.shared, self.machines = folder, folder / "installed", folder / "shared", []
+        self.shared.mkdir()
         programs = [f"{name}={program}" for name in ("PROGRAM", "AUDITOR")]
         run("make", "-s", "install-proxy", f"DESTDIR={self.installed}", "PREFIX=/usr", *programs, cwd=TOP)
         (self.installed / "usr/bin/systemctl").write_text(SYSTEMCTL)
