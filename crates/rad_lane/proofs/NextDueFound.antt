@@ -1,23 +1,24 @@
 -- Whether a sending is due, as the slots tell it.
-use Rattle.std.proofs.Common.{◌≡◌, ℕ, ◌<◌, ◌≤◌, Bool, true, false, Option, Some, None, inl, inr, refl, sym, ap, ◌∙◌, subst, arith}
-use Rattle.std.specs.Prelude.{option_map, min, List}
+use Rattle.std.proofs.Common.{◌≡◌, ℕ, ◌+◌, ◌<◌, ◌≤◌, Bool, true, false, Option, Some, None, inl, inr, refl, ap, ◌∙◌, subst, arith}
+use Rattle.std.specs.Prelude.{option_map, List}
+use Rattle.std.specs.Option.{MatchOption, unwrap_or}
 use Rattle.std.specs.FinMap as map
-use Rattle.std.proofs.lemmas.Bool.Decides.{leb_tells}
 use Rattle.rad_tables.specs.declared.slots.Slot.{Slot}
 use Rattle.rad_tables.specs.declared.slots.Due.{Due}
-use Rattle.rad_tables.specs.Dues.{NotAfter, IsFirstDue}
-use Rattle.rad_lane.specs.Outstanding.{Outstanding, is_spent}
+use Rattle.rad_tables.specs.Dues.{NotAfter, IsEarliest, IsFirstDue, NoneInUse}
+use Rattle.rad_tables.specs.Pairs.{slot_cmp}
+use Rattle.rad_lane.specs.Outstanding.{Outstanding, sent_again}
 use Rattle.rad_lane.specs.declared.entry.Entry.{Entry}
 use Rattle.rad_lane.specs.declared.entry.Entry.TheVariants.{Sending as sending, Probe as probe}
 use Rattle.rad_lane.specs.declared.stepping.Action.TheVariants.{Idle}
-use Rattle.rad_lane.specs.declared.stepping.NextDue.TheVariants.{Now, Later}
 use Rattle.rad_lane.specs.declared.watch.Watch.TheVariants.{Up as up}
-use Rattle.rad_lane.specs.Book.{Book, outstanding_at}
-use Rattle.rad_lane.specs.Dues.{NoneDue, IsNextDue, IsSpentDue, IsLeastOfAll, as_moment}
+use Rattle.rad_lane.specs.Book.{Book}
+use Rattle.rad_lane.specs.Dues.{NoneDue, IsNextDue, IsSpentDue, IsLeastOfAll, NoneOutstanding, as_moment}
 use Rattle.rad_lane.specs.Lawful.{ProbeStands}
-use Rattle.rad_lane.specs.Steps.{StepsWhileUp, NothingToSend}
+use Rattle.rad_lane.specs.Steps.{StepsWhileUp, NothingToSend, freed}
 use Rattle.rad_lane.specs.Entries.{due_in, number_in, is_spent_in}
-use Rattle.rad_lane.specs.internal.NextDue.{NoneIsSo, IsLeastLater, FindsNextDue, earlier}
+use Rattle.rad_lane.specs.internal.NextDue.{NoneBefore}
+use Rattle.rad_lane.proofs.HeldLemmas.{every_put, every_left}
 
 -- a lane that is up has no probe
 pub no_probe : (book : Book) → book.watch ≡ up → ProbeStands book book.watch → (slot : Slot) (octets : _) → map.get book.held slot ≡ Some (probe octets) → ⊥
@@ -26,96 +27,95 @@ no_probe book is apart = subst (λ w. ProbeStands book w) is apart
 at_or_after : (a b : ℕ × ℕ) → NotAfter a b → a.0 ≤ b.0
 at_or_after a b h = elim h [ inl before ↦ omega (arith, before) | inr same ↦ omega (arith, same.0) ]
 
-module _ (book : Book) (none : (slot : Slot) (octets : _) → map.get book.held slot ≡ Some (probe octets) → ⊥) (now : ℕ) (which : Bool) where
-  next_by : (slot : Slot) (x : Entry) → map.get book.held slot ≡ Some x → is_spent_in x ≡ which → ((other : Slot) (e : Entry) → map.get book.held other ≡ Some e → is_spent_in e ≡ which → NotAfter (due_in x, number_in x) (due_in e, number_in e)) → due_in x ≤ now → (entry : Outstanding) × IsNextDue book now which slot entry
-  next_by slot (probe octets) there kind first due = absurd (none slot octets there)
-  next_by slot (sending entry) there kind first due = (
-    entry,
-    record {
-      there = there;
-      kind = kind;
-      due = due;
-      first = λ other e there_too kind_too. first other (sending e) there_too kind_too;
-    },
-  )
+module _ (book : Book) (none : (slot : Slot) (octets : _) → map.get book.held slot ≡ Some (probe octets) → ⊥) where
+  module _ (now : ℕ) (which : Bool) where
+    next_by : (slot : Slot) (x : Entry) → map.get book.held slot ≡ Some x → is_spent_in x ≡ which → ((other : Slot) (e : Entry) → map.get book.held other ≡ Some e → is_spent_in e ≡ which → NotAfter (due_in x, number_in x) (due_in e, number_in e)) → due_in x ≤ now → (entry : Outstanding) × IsNextDue book now which slot entry
+    next_by slot (probe octets) there kind first due = absurd (none slot octets there)
+    next_by slot (sending entry) there kind first due = (
+      entry,
+      record {
+        there = there;
+        kind = kind;
+        due = due;
+        first = λ other e there_too kind_too. first other (sending e) there_too kind_too;
+      },
+    )
 
-  least_by : (slot : Slot) (x : Entry) → map.get book.held slot ≡ Some x → is_spent_in x ≡ which → ((other : Slot) (e : Entry) → map.get book.held other ≡ Some e → is_spent_in e ≡ which → NotAfter (due_in x, number_in x) (due_in e, number_in e)) → now < due_in x → IsLeastLater book now which (due_in x)
-  least_by slot (probe octets) there kind first later = absurd (none slot octets there)
-  least_by slot (sending entry) there kind first later = record {
+    module _ (found : Due) (f : IsFirstDue due_in number_in is_spent_in book.held which found) where
+      next_of : found.due ≤ now → (entry : Outstanding) × IsNextDue book now which found.slot entry
+      next_of past = next_by found.slot f.at.least f.at.there f.at.kind f.at.first (subst (λ n. n ≤ now) f.due_is past)
+
+      none_of : now < found.due → NoneDue book now which
+      none_of ahead slot entry there kind =
+          let first = at_or_after _ _ (f.at.first slot (sending entry) there kind) in
+          omega (arith, ahead, f.due_is, first)
+
+  least_by : (moment : ℕ) (slot : Slot) (x : Entry) → map.get book.held slot ≡ Some x → moment ≡ due_in x → ((other : Slot) (e : Entry) → map.get book.held other ≡ Some e → moment ≤ due_in e) → IsLeastOfAll book moment
+  least_by moment slot (probe octets) there is first = absurd (none slot octets there)
+  least_by moment slot (sending entry) there is first = record {
     slot = slot;
     entry = entry;
     there = there;
-    kind = kind;
-    due_is = refl;
-    later = later;
-    least = λ other e there_too kind_too. at_or_after _ _ (first other (sending e) there_too kind_too);
+    due_is = is;
+    least = λ other e there_too. first other (sending e) there_too;
   }
 
-  module _ (found : Due) (f : IsFirstDue due_in number_in is_spent_in book.held which found) where
-    next_of : found.due ≤ now → FindsNextDue book now which (Now found.slot)
-    next_of past = next_by found.slot f.at.least f.at.there f.at.kind f.at.first (subst (λ n. n ≤ now) f.due_is past)
-
-    least_of : now < found.due → IsLeastLater book now which found.due
-    least_of ahead =
-        subst (λ n. IsLeastLater book now which n) (sym f.due_is)
-        (least_by found.slot f.at.least f.at.there f.at.kind f.at.first (subst (λ n. now < n) f.due_is ahead))
+  least_of : (earliest : Option ℕ) → MatchOption earliest (NoneInUse book.held) (IsEarliest due_in book.held) → MatchOption earliest (NoneOutstanding book) (IsLeastOfAll book)
+  least_of None h = λ slot entry there. h slot (sending entry) there
+  least_of (Some moment) h = least_by moment h.slot h.entry h.there h.due_is h.first
 
 -- the same of the book as it is seen
-module _ (book value : Book) (same : book ≡ value) (is_up : value.watch ≡ up) (apart : ProbeStands book book.watch) (now : ℕ) (which : Bool) (found : Due) (f : IsFirstDue due_in number_in is_spent_in book.held which found) where
-  none : (at : Slot) (octets : _) → map.get book.held at ≡ Some (probe octets) → ⊥
-  none = no_probe book (ap (λ (b : Book). b.watch) same ∙ is_up) apart
+module _ (book value : Book) (same : book ≡ value) where
+  -- nothing is due before the moment before which no entry is
+  pub none_before : (moment now : ℕ) → NoneBefore book.held moment → now < moment → (which : Bool) → NoneDue value now which
+  none_before moment now none ahead which =
+      subst (λ (b : Book). NoneDue b now which) same (λ slot entry there kind.
+      let later = none slot (sending entry) there in omega (arith, later, ahead))
 
-  pub next_seen : found.due ≤ now → FindsNextDue value now which (Now found.slot)
-  next_seen past = subst (λ (b : Book). FindsNextDue b now which (Now found.slot)) same (next_of book none now which found f past)
+  pub none_in_use : (now : ℕ) (which : Bool) → ((slot : Slot) (entry : Entry) → map.get book.held slot ≡ Some entry → is_spent_in entry ≡ which → ⊥) → NoneDue value now which
+  none_in_use now which none = subst (λ (b : Book). NoneDue b now which) same (λ slot entry there kind. absurd (none slot (sending entry) there kind))
 
-  pub least_seen : now < found.due → IsLeastLater value now which found.due
-  least_seen ahead = subst (λ (b : Book). IsLeastLater b now which found.due) same (least_of book none now which found f ahead)
+  module _ (is_up : value.watch ≡ up) (apart : ProbeStands book book.watch) where
+    no_probe_here : (at : Slot) (octets : _) → map.get book.held at ≡ Some (probe octets) → ⊥
+    no_probe_here = no_probe book (ap (λ (b : Book). b.watch) same ∙ is_up) apart
 
--- nothing of this kind is due
-pub none_due : (book : Book) (now : ℕ) (which : Bool) (next : Option ℕ) → FindsNextDue book now which (Later next) → NoneDue book now which
-none_due book now which None h slot entry there kind = absurd (h slot entry there kind)
-none_due book now which (Some due) h slot entry there kind = let least = h.least slot entry there kind in omega (arith, h.later, least)
+    module _ (now : ℕ) (which : Bool) (found : Due) (f : IsFirstDue due_in number_in is_spent_in book.held which found) where
+      pub next_seen : found.due ≤ now → (entry : Outstanding) × IsNextDue value now which found.slot entry
+      next_seen past = subst (λ (b : Book). (entry : Outstanding) × IsNextDue b now which found.slot entry) same (next_of book no_probe_here now which found f past)
+
+      pub none_seen : now < found.due → NoneDue value now which
+      none_seen ahead = subst (λ (b : Book). NoneDue b now which) same (none_of book no_probe_here now which found f ahead)
+
+    pub least_seen : (earliest : Option ℕ) → MatchOption earliest (NoneInUse book.held) (IsEarliest due_in book.held) → MatchOption earliest (NoneOutstanding value) (IsLeastOfAll value)
+    least_seen earliest h = subst (λ (b : Book). MatchOption earliest (NoneOutstanding b) (IsLeastOfAll b)) same (least_of book no_probe_here earliest h)
+
+-- no entry is due before the earliest due time, nor before any moment where there is none
+pub before_earliest : (held : map.FinMap slot_cmp Entry) (earliest : Option ℕ) (last : ℕ) → MatchOption earliest (NoneInUse held) (IsEarliest due_in held) → NoneBefore held (unwrap_or earliest last)
+before_earliest held None last h = λ slot entry there. absurd (h slot entry there)
+before_earliest held (Some moment) last h = h.first
+
+-- no entry is due before that moment once a pair is freed, nor before the due time of an entry that comes, if that is earlier
+pub before_freed : (held : map.FinMap slot_cmp Entry) (out : Option Slot) (moment : ℕ) → NoneBefore held moment → NoneBefore (freed held out) moment
+before_freed held None moment none = none
+before_freed held (Some slot) moment none = every_left (λ at x. moment ≤ due_in x) held none slot
+
+pub before_put : (held : map.FinMap slot_cmp Entry) (slot : Slot) (x : Entry) (old moment : ℕ) → NoneBefore held old → moment ≤ old → moment ≤ due_in x → NoneBefore (map.insert held slot x) moment
+before_put held slot x old moment none lower here =
+    every_put (λ at y. moment ≤ due_in y) held (λ at y there. let later = none at y there in omega (arith, later, lower)) slot x here
+
+-- a sending that is due is due later once it was sent again
+pub before_again : (held : map.FinMap slot_cmp Entry) (slot : Slot) (entry : Outstanding) (moment now first : ℕ) → NoneBefore held moment → map.get held slot ≡ Some (sending entry) → entry.due ≤ now → moment ≤ due_in (sending (sent_again first now entry))
+before_again held slot entry moment now first none there past =
+    let before = none slot (sending entry) there in later_still moment entry.due now _ before past
+  where
+    later_still : (moment due now wait : ℕ) → moment ≤ due → due ≤ now → moment ≤ now + wait
+    later_still moment due now wait before past = omega (arith, before, past)
 
 -- something spent is due
-pub spent_due : (book : Book) (now : ℕ) (slot : Slot) → FindsNextDue book now true (Now slot) → IsSpentDue book now
+pub spent_due : (book : Book) (now : ℕ) (slot : Slot) → (entry : Outstanding) × IsNextDue book now true slot entry → IsSpentDue book now
 spent_due book now slot h = record { slot = slot; entry = h.0; there = h.1.there; spent = h.1.kind; due = h.1.due }
 
-module _ (book : Book) where
-  none_at_all : (b : Bool) (slot : Slot) (entry : Outstanding) → outstanding_at book slot entry → is_spent entry ≡ b → NoneIsSo book false → NoneIsSo book true → ⊥
-  none_at_all false slot entry there kind f s = f slot entry there kind
-  none_at_all true slot entry there kind f s = s slot entry there kind
-
-  -- what holds of the due of each sending, spent or not
-  of_either : (due : ℕ) → (b : Bool) (slot : Slot) (e : Outstanding) → outstanding_at book slot e → is_spent e ≡ b → ((at : Slot) (o : Outstanding) → outstanding_at book at o → is_spent o ≡ false → due ≤ o.due) → ((at : Slot) (o : Outstanding) → outstanding_at book at o → is_spent o ≡ true → due ≤ o.due) → due ≤ e.due
-  of_either due false slot e there kind f s = f slot e there kind
-  of_either due true slot e there kind f s = s slot e there kind
-
-  module _ (now : ℕ) where
-    least_of_one : (which : Bool) (due : ℕ) → IsLeastLater book now which due → ((at : Slot) (o : Outstanding) → outstanding_at book at o → is_spent o ≡ false → due ≤ o.due) → ((at : Slot) (o : Outstanding) → outstanding_at book at o → is_spent o ≡ true → due ≤ o.due) → IsLeastOfAll book due
-    least_of_one which due l f s = record {
-      slot = l.slot;
-      entry = l.entry;
-      there = l.there;
-      due_is = l.due_is;
-      least = λ other e there. of_either due (is_spent e) other e there refl f s;
-    }
-
-    least_of_two : (a b : ℕ) → IsLeastLater book now false a → IsLeastLater book now true b → IsLeastOfAll book (min a b)
-    least_of_two a b f s = elim (leb_tells a b) [
-      | inl first ↦
-          let same : a ≡ min a b = omega (arith, first.1) in
-          subst (λ n. IsLeastOfAll book n) same (least_of_one false a f f.least (λ at o there kind. let h = s.least at o there kind in omega (arith, h, first.1)))
-      | inr second ↦
-          let same : b ≡ min a b = omega (arith, second.1) in
-          subst (λ n. IsLeastOfAll book n) same (least_of_one true b s (λ at o there kind. let h = f.least at o there kind in omega (arith, h, second.1)) s.least)
-    ]
-
-    -- where nothing is to be done
-    pub idle : (fresh spent : Option ℕ) (octets : List ℕ) → FindsNextDue book now false (Later fresh) → FindsNextDue book now true (Later spent) → NothingToSend book → StepsWhileUp book now (Idle (option_map as_moment (earlier fresh spent))) (record { before = octets; after = octets }) (record book { last = now })
-    idle None None octets f s nothing = (nothing, λ slot entry there. none_at_all (is_spent entry) slot entry there refl f s, refl, refl)
-    idle (Some a) None octets f s nothing =
-        (none_due book now false (Some a) f, none_due book now true None s, nothing, a, least_of_one false a f f.least (λ at o there kind. absurd (s at o there kind)), refl, refl, refl)
-    idle None (Some b) octets f s nothing =
-        (none_due book now false None f, none_due book now true (Some b) s, nothing, b, least_of_one true b s (λ at o there kind. absurd (f at o there kind)) s.least, refl, refl, refl)
-    idle (Some a) (Some b) octets f s nothing =
-        (none_due book now false (Some a) f, none_due book now true (Some b) s, nothing, min a b, least_of_two a b f s, refl, refl, refl)
+-- where nothing is to be done
+pub idle : (book : Book) (now : ℕ) (earliest : Option ℕ) (octets : List ℕ) → NoneDue book now false → NoneDue book now true → NothingToSend book → MatchOption earliest (NoneOutstanding book) (IsLeastOfAll book) → StepsWhileUp book now (Idle (option_map as_moment earliest)) (record { before = octets; after = octets }) (record book { last = now })
+idle book now None octets fresh spent nothing least = (nothing, least, refl, refl)
+idle book now (Some due) octets fresh spent nothing least = (fresh, spent, nothing, due, least, refl, refl, refl)

@@ -49,6 +49,8 @@ pub struct Lane<Q: Fifo<Record>> {
     pub(crate) slots: Slots<Entry>,
     /// How many of the entries are sendings.
     pub(crate) outstanding: usize,
+    /// A moment before which no entry is due, in milliseconds. It saves the look at each of them.
+    pub(crate) none_before: u64,
     /// The number of the last request of each key, if it was accepted recently.
     pub(crate) recent: Duplicates,
     /// The same of each key whose last request was accepted before these.
@@ -76,7 +78,7 @@ impl<Q: Fifo<Record>> Model for Lane<Q> {
 
     ghost view = { λ l. book_of l.setup l.opening l.accepted.items (Q.items l.queued) l.answered.items l.served l.slots l.drain l.watch l.last };
 
-    ghost invariant = { λ l. Stands (book_of l.setup l.opening l.accepted.items (Q.items l.queued) l.answered.items l.served l.slots l.drain l.watch l.last) (Q.items l.queued) l.slots.ports l.recent l.earlier.numbers l.earlier.end l.indices.items l.outstanding };
+    ghost invariant = { λ l. Stands (book_of l.setup l.opening l.accepted.items (Q.items l.queued) l.answered.items l.served l.slots l.drain l.watch l.last) (Q.items l.queued) l.slots.ports l.recent l.earlier.numbers l.earlier.end l.indices.items l.outstanding l.none_before };
 }
 
 /// Why no lane is made.
@@ -107,6 +109,7 @@ impl<Q: Fifo<Record>> Lane<Q> {
                 served: 0,
                 slots,
                 outstanding: 0,
+                none_before: 0,
                 recent: Duplicates::new(alloc),
                 earlier: EarlierKeys::new(alloc),
                 drain: None,

@@ -1,15 +1,15 @@
 //! The steps of a lane, one at a time.
 
-ghost use Rattle.std.specs.Prelude.{◌≡◌, ◌≢◌, ◌≤◌, Some, None, option_map, false, true};
+ghost use Rattle.std.specs.Prelude.{◌≡◌, ◌≢◌, ◌≤◌, Some, MatchOption, false, true};
 ghost use Rattle.std.specs.Bool.{OnTrue, OnFalse};
 ghost use Rattle.std.specs.FinMap as map;
 ghost use Rattle.rad_tables.specs.Pairs.{IsFirstFree, IsInRange};
 ghost use Rattle.rad_lane.specs.declared.watch.Watch.TheVariants.{Up as up, Down as down};
 ghost use Rattle.rad_lane.specs.Outstanding.{Outstanding};
 ghost use Rattle.rad_lane.specs.Datagrams.{Datagrams};
-ghost use Rattle.rad_lane.specs.Dues.{IsNextDue, NoneDue, as_moment};
+ghost use Rattle.rad_lane.specs.Dues.{IsLeastOfAll, IsNextDue, NoneDue, NoneOutstanding, as_moment};
 ghost use Rattle.rad_lane.specs.Steps.{AllotsAnother, Steps, StepsWhileDown, StepsWhileUp, NothingToSend};
-ghost use Rattle.rad_lane.specs.internal.NextDue.{FindsNextDue, MaySend, earlier as the_earlier};
+ghost use Rattle.rad_lane.specs.internal.NextDue.{MaySend};
 
 use crate::{Entry, Lane, Record, Sending, Setup, Watch};
 use block_queue::Fifo;
@@ -33,14 +33,6 @@ pub enum Action {
     Idle(Option<Moment>),
 }
 
-/// The next due sending among those that are spent, or among those that are not.
-pub(crate) enum NextDue {
-    /// The sending under this pair is due now, and comes first.
-    Now(Slot),
-    /// None is due before this moment in milliseconds, or there is none.
-    Later(Option<u64>),
-}
-
 impl<Q: Fifo<Record>> Lane<Q> {
     /// Takes the next step. While the home server is marked up, the step retransmits the next due sending that is not
     /// spent. If none is due, it marks the home server down if a spent sending is due, and otherwise sends the first
@@ -48,8 +40,8 @@ impl<Q: Fifo<Record>> Lane<Q> {
     /// `down_wait` is over, and otherwise probes it if the next probe is due, with `random` as the Authenticator. If
     /// none of this applies, the step is idle.
     ///
-    /// It takes no memory. It looks at each outstanding sending at most twice. Marking the home server up changes
-    /// each of them.
+    /// It takes no memory. It looks at each outstanding sending at most four times, and at none before it sends the
+    /// first request of the queue, unless one may be due. Marking the home server up changes each of them.
     pub fn step(&mut self, moment: Moment, random: [u8; 16], datagram: &mut Datagram) -> Action
         ensures steps { Steps self.old moment random result (record { before = datagram.old; after = datagram.new }) self.new }
         ensures another { AllotsAnother self.old result }
@@ -96,53 +88,64 @@ impl<Q: Fifo<Record>> Lane<Q> {
         ensures steps { StepsWhileUp self.old now result (record { before = datagram.old; after = datagram.new }) self.new }
         ensures another { AllotsAnother self.old result }
     {
-        let unspent = match self.next_unspent(now) {
-            NextDue::Now(slot) => return self.resend(slot, now, datagram),
-            NextDue::Later(next) => next,
-        };
-        let spent = match self.next_spent(now) {
-            NextDue::Now(_) => {
-                self.go_down(now);
-                return Action::WentDown;
-            }
-            NextDue::Later(next) => next,
-        };
-        if self.may_send() {
-            return self.send_first(now, datagram);
+        if now.get() < self.none_before {
+            return self.go_on(now, datagram);
         }
-        self.set_last(now);
-        Action::Idle(earlier(unspent, spent))
+        if let Some(slot) = self.next_due(false, now) {
+            return self.resend(slot, now, datagram);
+        }
+        if self.next_due(true, now).is_some() {
+            self.go_down(now);
+            return Action::WentDown;
+        }
+        self.note_earliest();
+        self.go_on(now, datagram)
     }
 
-    fn next_unspent(&self, now: Moment) -> NextDue
+    /// Returns the pair of the sending that is due first, of those that are spent or of those that are not, if it is due
+    /// now. It looks at each outstanding sending once.
+    fn next_due(&self, spent: bool, now: Moment) -> Option<Slot>
         requires { self.now.watch ≡ up }
-        ensures { FindsNextDue self.now now false result }
-    {
-        self.next_due(false, now)
-    }
-
-    fn next_spent(&self, now: Moment) -> NextDue
-        requires { self.now.watch ≡ up }
-        ensures { FindsNextDue self.now now true result }
-    {
-        self.next_due(true, now)
-    }
-
-    /// It looks at each outstanding sending once.
-    fn next_due(&self, spent: bool, now: Moment) -> NextDue
-        requires { self.now.watch ≡ up }
-        ensures { FindsNextDue self.now now spent result }
+        ensures { MatchOption result (NoneDue self.now now spent) (λ slot. (entry : Outstanding) × IsNextDue self.now now spent slot entry) }
     {
         match self.slots.first_due(spent) {
-            None => NextDue::Later(None),
+            None => None,
             Some(first) => {
                 if first.due <= now.get() {
-                    NextDue::Now(first.slot)
+                    Some(first.slot)
                 } else {
-                    NextDue::Later(Some(first.due))
+                    None
                 }
             }
         }
+    }
+
+    /// Sends the first request of the queue, if it may be sent, while no sending is due. Otherwise the lane is idle.
+    fn go_on(&mut self, now: Moment, datagram: &mut Datagram) -> Action
+        requires is_up { self.old.watch ≡ up }
+        requires later { self.old.last ≤ now }
+        requires fresh { NoneDue self.old now false }
+        requires spent { NoneDue self.old now true }
+        ensures steps { StepsWhileUp self.old now result (record { before = datagram.old; after = datagram.new }) self.new }
+        ensures another { AllotsAnother self.old result }
+    {
+        if self.may_send() {
+            return self.send_first(now, datagram);
+        }
+        let earliest = self.note_earliest();
+        self.set_last(now);
+        Action::Idle(earliest.map(moment_at))
+    }
+
+    /// Returns when the first of the outstanding sendings is due, in milliseconds, and notes it. It looks at each once.
+    fn note_earliest(&mut self) -> Option<u64>
+        requires { self.old.watch ≡ up }
+        ensures same { self.new ≡ self.old }
+        ensures earliest { MatchOption result (NoneOutstanding self.old) (IsLeastOfAll self.old) }
+    {
+        let earliest = self.slots.earliest_due();
+        self.none_before = earliest.unwrap_or(u64::MAX);
+        earliest
     }
 
     fn resend(&mut self, slot: Slot, now: Moment, datagram: &mut Datagram) -> Action
@@ -174,6 +177,7 @@ impl<Q: Fifo<Record>> Lane<Q> {
         let record = self.queued.pop_front().unwrap();
         let number = record.stamp().number;
         let sending = Sending::first(record, &self.setup, slot.identifier, now, datagram);
+        self.none_before = self.none_before.min(sending.due());
         self.slots.put(slot, Entry::Sending(sending));
         self.outstanding += 1;
         self.last = now;
@@ -207,15 +211,4 @@ fn moment_at(milliseconds: u64) -> Moment
     ensures { result ≡ as_moment milliseconds }
 {
     Moment::new(milliseconds.min((1 << 62) - 1)).unwrap()
-}
-
-fn earlier(one: Option<u64>, other: Option<u64>) -> Option<Moment>
-    ensures { result ≡ option_map as_moment (the_earlier one other) }
-{
-    match (one, other) {
-        (None, None) => None,
-        (Some(due), None) => Some(moment_at(due)),
-        (None, Some(due)) => Some(moment_at(due)),
-        (Some(due), Some(later)) => Some(moment_at(due.min(later))),
-    }
 }

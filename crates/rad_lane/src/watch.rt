@@ -84,6 +84,7 @@ impl<Q: Fifo<Record>> Lane<Q> {
     {
         free(&mut self.slots, self.watch.probe());
         self.slots.change_each(&Renewal { now });
+        self.none_before = 0;
         self.watch = Watch::Up;
         self.last = now;
     }

@@ -33,7 +33,8 @@ pub struct Numbers<'a, R> {
     started: u64,
     /// The same by what the clock of the day shows now, if that was set since.
     set: AtomicU64,
-    clients: BTreeMap<[u8; 4], usize>,
+    /// The row of each client, by its address as a number.
+    clients: BTreeMap<u32, usize>,
     counts: Counts,
     /// The number of datagrams that came from senders that are not clients.
     strangers: AtomicU64,
@@ -221,7 +222,7 @@ impl<R> Numbers<'_, R> {
         let (Some(event), Some(peer)) = (CountedEvent::of_client(its.report), its.peer) else {
             return;
         };
-        if let Some(row) = self.clients.get(&peer.address) {
+        if let Some(row) = self.clients.get(&number_of(peer.address)) {
             self.counts.add(*row, event, 1);
         } else if event.metric == Counted::ClientReceived {
             self.strangers.fetch_add(1, Ordering::SeqCst);
@@ -260,12 +261,17 @@ fn set_start(before: u64, now: u64, passed: u64) -> u64
     }
 }
 
-fn rows_of(alloc: Global, config: &Config) -> Result<BTreeMap<[u8; 4], usize>, AllocError> {
+fn rows_of(alloc: Global, config: &Config) -> Result<BTreeMap<u32, usize>, AllocError> {
     let mut rows = BTreeMap::new(alloc);
     for (row, client) in config.clients().iter().enumerate() {
-        rows.insert(client.address(), row)?;
+        rows.insert(number_of(client.address()), row)?;
     }
     Ok(rows)
+}
+
+/// Returns an address as a number. Comparing two numbers takes less time than comparing their octets.
+fn number_of(address: [u8; 4]) -> u32 {
+    u32::from_be_bytes(address)
 }
 
 /// Returns the time, in milliseconds since 1970, if the clock of the day can be read.

@@ -27,3 +27,15 @@ module _ {T : Type 0} (due number : T → ℕ) (spent : T → Bool) where
 -- there is no entry that is spent, or none that is not
 abbrev pub NoneIs : {T : Type 0} → (T → Bool) → map.FinMap slot_cmp T → Bool → Type 0
 NoneIs spent entries which = (slot : Slot) (entry : _) → map.get entries slot ≡ Some entry → spent entry ≡ which → ⊥
+
+-- no pair is in use
+abbrev pub NoneInUse : {T : Type 0} → map.FinMap slot_cmp T → Type 0
+NoneInUse entries = (slot : Slot) (entry : _) → map.get entries slot ≡ Some entry → ⊥
+
+-- the earliest due time of all entries
+pub record IsEarliest {T : Type 0} (due : T → ℕ) (entries : map.FinMap slot_cmp T) (moment : ℕ) : Type 0 where
+  pub slot : Slot
+  pub entry : T
+  pub there : map.get entries slot ≡ Some entry
+  pub due_is : moment ≡ due entry
+  pub first : (other : Slot) (e : T) → map.get entries other ≡ Some e → moment ≤ due e

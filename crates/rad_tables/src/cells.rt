@@ -6,7 +6,7 @@ ghost use Rattle.std.specs.Bool.{OnTrue, OnFalse};
 ghost use Rattle.std.specs.Borrow.{sem, Lends};
 ghost use Rattle.rad_tables.specs.Dues.{NotAfter};
 ghost use Rattle.rad_tables.specs.internal.Kept.{entry_of, contents_of, AreChanged, InUseBetween, IsFirstFreeBetween, IsFirstFreeBehind};
-ghost use Rattle.rad_tables.specs.internal.Least.{AreInUse, NoneAmong, IsLeastAmong, IsEarlier};
+ghost use Rattle.rad_tables.specs.internal.Least.{AreInUse, NoneAmong, IsLeastAmong, IsEarlier, IsEarliestAmong, sooner as the_sooner};
 
 use crate::{Change, Timed};
 use std::alloc::{AllocError, Global};
@@ -179,5 +179,28 @@ fn earlier(waiting: Waiting, least: Option<Waiting>) -> Waiting
     match least {
         Some(least) if !waiting.is_before(&least) => least,
         _ => waiting,
+    }
+}
+
+/// Returns the earliest due time of the entries at these places, if there is any.
+pub(crate) fn earliest_of<T: Timed>(cells: &[Cell<T>], places: &[u16]) -> Option<u64>
+    requires { AreInUse (contents_of cells.now) places.now }
+    ensures { IsEarliestAmong T.due_of (contents_of cells.now) places.now (length places.now) result }
+{
+    let mut earliest: Option<u64> = None;
+    for place in places {
+        let due = cells[usize::from(*place)].entry().due();
+        earliest = Some(sooner(due, earliest));
+    }
+    earliest
+}
+
+/// Returns the earlier due time, of one and the earliest one so far.
+fn sooner(due: u64, earliest: Option<u64>) -> u64
+    ensures { result ≡ the_sooner due earliest }
+{
+    match earliest {
+        Some(earliest) => earliest.min(due),
+        None => due,
     }
 }

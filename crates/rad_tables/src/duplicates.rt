@@ -1,18 +1,19 @@
 //! The last number of each request's key, by which repeats are recognised.
 
-ghost use Rattle.std.specs.Prelude.{◌≡◌, IfOk, IsSome, None, OnOk, OnErr};
+ghost use Rattle.std.specs.Prelude.{◌≡◌, ◌+◌, ◌*◌, ◌<◌, IfOk, IsSome, None, OnOk, OnErr, slice_index};
 ghost use Rattle.std.specs.FinMap as map;
 ghost use Rattle.rad_tables.specs.Keys.{with_last};
 
 use std::alloc::{AllocError, Global};
+use std::cmp::Ordering;
 use std::collections::BTreeMap;
 use std::marker::Model;
 
 /// The key of a request. Requests with the same key are copies of one request (RFC 2866 section 3, Identifier, for
 /// the last three fields; the Authenticator is own).
 ///
-/// Keys are ordered by their Authenticators first, since two of these mostly differ in their first octet.
-#[derive(Clone, Copy, Debug, PartialEq, Eq, PartialOrd, Ord)]
+/// Keys are ordered by their Authenticators first, since two of these mostly differ in their first octets.
+#[derive(Clone, Copy, Debug, PartialEq, Eq)]
 pub struct Key {
     /// The packet's Request Authenticator.
     pub authenticator: [u8; 16],
@@ -22,6 +23,72 @@ pub struct Key {
     pub port: u16,
     /// The packet's Identifier.
     pub identifier: u8,
+}
+
+impl Ord for Key {
+    ghost use Rattle.std.proofs.Common.{rules};
+    ghost use Rattle.std.specs.Cmp.Rules.{comparing};
+    ghost use Rattle.std.specs.Cmp.Lexicographic.{slice_cmp};
+    ghost use Rattle.std.specs.Ordering.{nat_cmp, on, then_cmp};
+
+    ghost cmp = { then_cmp (on (λ k. k.authenticator) (slice_cmp nat_cmp))
+        (then_cmp (on (λ k. k.client) (slice_cmp nat_cmp))
+        (then_cmp (on (λ k. k.port) nat_cmp) (on (λ k. k.identifier) nat_cmp))) };
+
+    ghost total = { Prim.search (comparing, rules) };
+
+    ghost matches_partial_cmp = { Prim.search (comparing, rules) };
+
+    ghost matches_eq = { Prim.search (comparing, rules) };
+
+    fn cmp(&self, other: &Key) -> Ordering {
+        let found = first_four(&self.authenticator).cmp(&first_four(&other.authenticator));
+        if found.is_ne() {
+            return found;
+        }
+        let rest = self
+            .port
+            .cmp(&other.port)
+            .then(self.identifier.cmp(&other.identifier));
+        let client = self.client.cmp(&other.client);
+        self.authenticator
+            .cmp(&other.authenticator)
+            .then(client.then(rest))
+    }
+}
+
+impl PartialOrd for Key {
+    ghost use Rattle.std.proofs.Common.{rules};
+    ghost use Rattle.std.specs.Cmp.{partial_order_from_own_ties, partial_order_from_total, then_total, on_total, nat_cmp_total};
+    ghost use Rattle.std.specs.Cmp.Rules.{comparing};
+    ghost use Rattle.std.specs.Cmp.Lexicographic.{slice_cmp, nat_list_cmp_total};
+    ghost use Rattle.std.specs.Ordering.{nat_cmp, on, then_cmp, as_partial_cmp};
+
+    ghost partial_cmp = { as_partial_cmp (then_cmp (on (λ k. k.authenticator) (slice_cmp nat_cmp))
+        (then_cmp (on (λ k. k.client) (slice_cmp nat_cmp))
+        (then_cmp (on (λ k. k.port) nat_cmp) (on (λ k. k.identifier) nat_cmp)))) };
+
+    ghost laws = { partial_order_from_own_ties
+        (partial_order_from_total (then_total (on_total (λ k. k.authenticator) nat_list_cmp_total)
+        (then_total (on_total (λ k. k.client) nat_list_cmp_total)
+        (then_total (on_total (λ k. k.port) nat_cmp_total) (on_total (λ k. k.identifier) nat_cmp_total)))))
+        (Prim.search (comparing, rules)) };
+
+    fn partial_cmp(&self, other: &Key) -> Option<Ordering> {
+        Some(self.cmp(other))
+    }
+}
+
+/// Returns the first four octets as one number. Of two Authenticators they mostly differ, and then they are ordered as
+/// these numbers are.
+fn first_four(octets: &[u8; 16]) -> u32
+    ensures value { result ≡ ((slice_index octets.now 0 * 256 + slice_index octets.now 1) * 256 + slice_index octets.now 2) * 256 + slice_index octets.now 3 }
+    ensures second { slice_index octets.now 1 < 256 }
+    ensures third { slice_index octets.now 2 < 256 }
+    ensures fourth { slice_index octets.now 3 < 256 }
+{
+    let first = u32::from(octets[0]) * 256 + u32::from(octets[1]);
+    (first * 256 + u32::from(octets[2])) * 256 + u32::from(octets[3])
 }
 
 /// A table of the last number of each key.

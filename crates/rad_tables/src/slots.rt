@@ -5,10 +5,10 @@ ghost use Rattle.std.specs.Option.{option_copied, option_copied_mut, option_map}
 ghost use Rattle.std.specs.Borrow.{sem};
 ghost use Rattle.std.specs.FinMap as map;
 ghost use Rattle.rad_tables.specs.Pairs.{AllInUse, IsFirstFree, IsInRange};
-ghost use Rattle.rad_tables.specs.Dues.{IsFirstDue, IsLeastDue, NoneIs};
+ghost use Rattle.rad_tables.specs.Dues.{IsEarliest, IsFirstDue, IsLeastDue, NoneInUse, NoneIs};
 ghost use Rattle.rad_tables.specs.internal.Kept.{place_of as the_place, slot_at as the_slot, start_of as the_start};
 
-use crate::cells::{Cell, change_each, first_free_behind, free_cells, least_of};
+use crate::cells::{Cell, change_each, earliest_of, first_free_behind, free_cells, least_of};
 use crate::{Change, Timed};
 use std::alloc::{AllocError, Global};
 use std::marker::Model;
@@ -232,6 +232,19 @@ impl<T: Drop> Slots<T> {
             slot: slot_at(waiting.place),
             due: waiting.due,
         })
+    }
+
+    /// Returns the earliest due time of all entries, in milliseconds, if there is any.
+    ///
+    /// It looks at each entry once, and reads only its due time.
+    pub fn earliest_due(&self) -> Option<u64>
+    where
+        T: Timed,
+        ensures { MatchOption result
+            (NoneInUse self.now.entries)
+            (IsEarliest T.due_of self.now.entries) }
+    {
+        earliest_of(&self.cells, &self.places)
     }
 }
 

@@ -17,6 +17,7 @@ use Rattle.rad_lane.specs.Book.{Book, next_number, outstanding_count}
 use Rattle.rad_lane.specs.Repeat.{Repeats, fresh, repeats_answered, of_key, last_of, answer_to}
 use Rattle.rad_lane.specs.Lawful.{IsLawful}
 use Rattle.rad_lane.specs.internal.Keys.{merged, AreBounded}
+use Rattle.rad_lane.specs.internal.NextDue.{NoneBefore}
 
 -- The book: all of the accepted requests except the queued ones were sent.
 abbrev pub book_of : LaneSetup → ℕ → List Stamp → List Kept → List AnswerKept → ℕ → Table Entry → Option ℕ → Watch → ℕ → Book
@@ -81,7 +82,8 @@ pub record IsConsistent (book : Book) (kept : List Kept) (ports : ℕ) (numbers 
   pub indices : (number : ℕ) → book.opening ≤ number → answer_index_in cells book.opening number ≡ answer_index_to number book.answered
   pub numbers_fit : next_number book ≤ 2 ^ 62
 
--- The keys of the lane are bounded too.
-pub record Stands (book : Book) (kept : List Kept) (ports : ℕ) (recent earlier : map.FinMap key_cmp ℕ) (end : ℕ) (cells : List (Option AnswerIndex)) (count : ℕ) : Type 0 where
+-- The keys of the lane are bounded too, and so is when its entries are due.
+pub record Stands (book : Book) (kept : List Kept) (ports : ℕ) (recent earlier : map.FinMap key_cmp ℕ) (end : ℕ) (cells : List (Option AnswerIndex)) (count moment : ℕ) : Type 0 where
   pub consistent : IsConsistent book kept ports (merged book.opening recent earlier) cells count
   pub bounded : AreBounded book.opening (next_number book) recent end
+  pub none_before : NoneBefore book.held moment

@@ -175,6 +175,14 @@ impl<G: Gate> Gate for Supervisor<'_, G> {
         self.outer.asks(lane)
     }
 
+    /// A response that a lane's worker added is counted before the front is notified, so the front looks for it.
+    fn may_have_response(&self, lane: u16) -> bool {
+        match self.lane(lane) {
+            Some(state) => !state.ring.is_empty(),
+            None => true,
+        }
+    }
+
     /// Does what an event asks for, and passes the report on.
     fn report(&self, worker: Worker, report: &WorkerReport<'_>) {
         match *report {

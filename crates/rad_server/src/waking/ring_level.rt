@@ -123,6 +123,11 @@ impl RingLevel {
         self.shared.taken.value.load(Ordering::SeqCst)
     }
 
+    /// Returns whether the front took all responses that the lane's worker reported.
+    pub(crate) fn is_empty(&self) -> bool {
+        self.in_use_after(self.taken()) == 0
+    }
+
     fn is_full_after(&self, taken: u64) -> bool {
         self.in_use_after(taken) >= self.shared.places
     }

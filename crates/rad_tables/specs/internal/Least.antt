@@ -1,5 +1,5 @@
 -- The entry at some places that is due first. No public clause cites this module.
-use Rattle.std.specs.Prelude.{◌≡◌, ℕ, ◌<◌, List, length, slice_index, Bool, Option, Some, None, IsSome, ◌⊎◌}
+use Rattle.std.specs.Prelude.{◌≡◌, ℕ, ◌<◌, ◌≤◌, min, List, length, slice_index, Bool, Option, Some, None, IsSome, ◌⊎◌}
 use Rattle.rad_tables.specs.Dues.{NotAfter}
 use Rattle.rad_tables.specs.internal.Kept.{at}
 use Rattle.rad_tables.specs.declared.cells.Waiting.{Waiting}
@@ -34,3 +34,23 @@ module _ {T : Type 0} (due number : T → ℕ) (spent : T → Bool) (contents : 
     pub due_is : waiting.due ≡ due least
     pub number_is : waiting.number ≡ number least
     pub first : (i : ℕ) (entry : T) → i < count → at contents (slice_index places i) ≡ Some entry → spent entry ≡ which → NotAfter (due_and_number waiting) (due entry, number entry)
+
+-- of one due time and the earliest one so far, the earlier one
+abbrev pub sooner : ℕ → Option ℕ → ℕ
+sooner due None = due
+sooner due (Some earliest) = min earliest due
+
+module _ {T : Type 0} (due : T → ℕ) (contents : List (Option T)) (places : List ℕ) (count : ℕ) where
+  -- this is the earliest due time of the entries at the first `count` places
+  pub record IsEarliestOf (moment : ℕ) : Type 0 where
+    pub position : ℕ
+    pub within : position < count
+    pub least : T
+    pub there : at contents (slice_index places position) ≡ Some least
+    pub due_is : moment ≡ due least
+    pub first : (i : ℕ) (entry : T) → i < count → at contents (slice_index places i) ≡ Some entry → moment ≤ due entry
+
+  -- the same, if there is any
+  abbrev pub IsEarliestAmong : Option ℕ → Type 0
+  IsEarliestAmong None = count ≡ 0
+  IsEarliestAmong (Some moment) = IsEarliestOf moment

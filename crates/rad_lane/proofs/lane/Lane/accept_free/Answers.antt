@@ -19,6 +19,7 @@ invariant_of-self-in-Some g c = record {
       stands_still c.self.inside.setup c.self.inside.opening c.self.inside.accepted.items (g.Q.Fifo.items c.self.inside.queued) c.self.inside.answered.items c.self.inside.served c.self.inside.slots c.self.inside.drain c.self.inside.watch c.self.inside.last _ refl _ refl c.self.inside.slots.ports (merged c.self.inside.opening c.self.inside.recent c.self.inside.earlier.numbers) c.self.inside.indices.items c.self.inside.outstanding c.self.invariant.consistent (merged c.self.inside.opening c.restore.new.self c.self.inside.earlier.numbers) (ap (λ m. merged c.self.inside.opening m c.self.inside.earlier.numbers) (as_before _ _ _ _ c.in-Ok.ensures.last _ _ c.in-Ok.ensures.ok c.restore.ensures)) _ refl;
   bounded =
       bounded_still c.self.inside.opening c.self.inside.earlier.end c.self.inside.recent c.restore.new.self c.self.inside.accepted.items _ (as_before _ _ _ _ c.in-Ok.ensures.last _ _ c.in-Ok.ensures.ok c.restore.ensures) refl c.self.invariant.bounded;
+  none_before = c.self.invariant.none_before;
 }
 
 pub returns-in-Some : goal.returns-in-Some
@@ -37,6 +38,7 @@ invariant_of-self-in_default-add g c = record {
       stands_still c.self.inside.setup c.self.inside.opening c.self.inside.accepted.items (g.Q.Fifo.items c.self.inside.queued) c.self.inside.answered.items c.self.inside.served c.self.inside.slots c.self.inside.drain c.self.inside.watch c.self.inside.last _ c.in_default-add.ensures.same_accepted _ c.in_default-add.ensures.same_queued c.self.inside.slots.ports (merged c.self.inside.opening c.self.inside.recent c.self.inside.earlier.numbers) c.self.inside.indices.items c.self.inside.outstanding c.self.invariant.consistent (merged c.self.inside.opening c.restore-in_default-add.new.self c.self.inside.earlier.numbers) (ap (λ m. merged c.self.inside.opening m c.self.inside.earlier.numbers) (as_before _ _ _ _ c.in-Ok.ensures.last _ _ c.in-Ok.ensures.ok c.restore-in_default-add.ensures)) _ c.in_default-add.ensures.same_indices;
   bounded =
       bounded_still c.self.inside.opening c.self.inside.earlier.end c.self.inside.recent c.restore-in_default-add.new.self c.self.inside.accepted.items _ (as_before _ _ _ _ c.in-Ok.ensures.last _ _ c.in-Ok.ensures.ok c.restore-in_default-add.ensures) c.in_default-add.ensures.same_accepted c.self.invariant.bounded;
+  none_before = c.self.invariant.none_before;
 }
 
 pub returns-in_default-add : goal.returns-in_default-add
@@ -64,6 +66,7 @@ invariant_of-self-2 g c = record {
       let next_is = c.next_number-next.ensures.value ∙ ap (λ (b : Book). next_number b) (sym c.self.view_is) in
       let next_since : c.self.inside.opening ≤ c.next_number-next.result = omega (arith, next_is) in
       bounded_more c.self.inside.opening c.self.inside.earlier.end c.next_number-next.result c.self.inside.recent c.replace.new.self c.key_of-key.result c.self.inside.accepted.items _ _ next_since c.in-Ok.ensures.ok c.in-Ok-add.ensures.added.accepted_are c.self.invariant.bounded;
+  none_before = c.self.invariant.none_before;
 }
 
 pub returns : goal.returns
@@ -89,6 +92,7 @@ invariant_of-self g c = record {
       stands_still c.self.inside.setup c.self.inside.opening c.self.inside.accepted.items (g.Q.Fifo.items c.self.inside.queued) c.self.inside.answered.items c.self.inside.served c.self.inside.slots c.self.inside.drain c.self.inside.watch c.self.inside.last _ refl _ refl c.self.inside.slots.ports (merged c.self.inside.opening c.self.inside.recent c.self.inside.earlier.numbers) c.self.inside.indices.items c.self.inside.outstanding c.self.invariant.consistent (merged c.self.inside.opening c.replace.new.self c.self.inside.earlier.numbers) (ap (λ m. merged c.self.inside.opening m c.self.inside.earlier.numbers) c.in_default.ensures.err) _ refl;
   bounded =
       bounded_still c.self.inside.opening c.self.inside.earlier.end c.self.inside.recent c.replace.new.self c.self.inside.accepted.items _ c.in_default.ensures.err refl c.self.invariant.bounded;
+  none_before = c.self.invariant.none_before;
 }
 
 pub repeat_of-requires : goal.repeat_of-requires

@@ -27,6 +27,7 @@ invariant_of-self g c = record {
   consistent =
       stands_unchanged c.self.inside.setup c.self.inside.opening c.self.inside.accepted.items (g.Q.Fifo.items c.self.inside.queued) c.self.inside.answered.items c.self.inside.served c.self.inside.slots c.self.inside.drain c.self.inside.watch c.self.inside.last c.args.self.now c.self.view_is c.self.inside.slots.ports (merged c.self.inside.opening c.self.inside.recent c.self.inside.earlier.numbers) c.self.inside.indices.items c.self.inside.outstanding c.self.invariant.consistent _ c.in_err-answered.ensures.err;
   bounded = c.self.invariant.bounded;
+  none_before = c.self.invariant.none_before;
 }
 
 pub invariant_of-self-2 : goal.invariant_of-self-2
@@ -45,6 +46,7 @@ invariant_of-self-2 g c = record {
       let after : c.next_number-after.result ≡ next + length c.drop_front.new.self.items = omega (arith, before, within, ap length c.drop_front.ensures, length-drop c.args.count items) in
       subst (λ n. AreBounded next n c.shed-keys.new.recent c.shed-keys.new.earlier.end) after
       (bounded_shed next c.next_number-after.result c.self.inside.earlier.end _ c.self.inside.recent c.shed-keys.new.recent (omega (arith, before, within)) (omega (arith, before, c.self.invariant.bounded.until)) c.shed-keys.ensures.shed c.shed-keys.ensures.kept);
+  none_before = c.self.invariant.none_before;
 }
 
 pub returns-clause-ok : goal.returns-clause-ok

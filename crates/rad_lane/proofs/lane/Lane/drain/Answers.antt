@@ -8,6 +8,7 @@ invariant_of-self g c = record {
   consistent =
       stands_drained_by _ _ _ _ _ _ _ _ c.self.view_is c.drained_at-count.ensures c.self.invariant.consistent;
   bounded = c.self.invariant.bounded;
+  none_before = c.self.invariant.none_before;
 }
 
 pub returns : goal.returns

@@ -6,4 +6,5 @@ invariant_of-self g c = record {
   consistent =
       stands_down _ _ _ _ _ _ c.self.inside.slots _ _ _ _ c.self.view_is _ c.requires.later _ _ _ c.self.invariant.consistent c.requires.is_up _ _;
   bounded = c.self.invariant.bounded;
+  none_before = c.self.invariant.none_before;
 }

@@ -2,6 +2,7 @@ use Rattle.std.proofs.Common.{◌≡◌, length, ap, ◌∙◌, arith}
 use Rattle.rad_tables.specs.Pairs.{Table}
 use Rattle.rad_lane.specs.Book.{Book}
 use Rattle.rad_lane.specs.declared.entry.Entry.{Entry}
+use Rattle.rad_lane.proofs.NextDueFound.{before_freed, before_put}
 use Rattle.rad_lane.proofs.ProbeSent.{probes_so}
 use Rattle.rad_lane.proofs.LawfulAfterWatch.{few_free, stands_probed, is_probe}
 use Rattle.rad_lane.proofs.lane.Lane.probe.Goals as goal
@@ -20,6 +21,7 @@ invariant_of-self g c = record {
       rw (c.put.ensures, c.free.ensures)
       (stands_probed _ _ _ _ _ _ c.self.inside.slots _ _ _ _ c.self.view_is c.args.now c.requires.later _ _ _ c.self.invariant.consistent _ _ c.args.out c.requires.is_down.1 c.free_slot-slot.result _ _ _ free in_range made);
   bounded = c.self.invariant.bounded;
+  none_before = rw (c.put.ensures, c.free.ensures) (before_put _ _ _ _ _ (before_freed _ c.args.out _ c.self.invariant.none_before) (omega arith) (omega arith));
 }
 
 pub free_slot-slot-requires-clause-pairs : goal.free_slot-slot-requires-clause-pairs

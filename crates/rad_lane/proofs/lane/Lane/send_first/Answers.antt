@@ -3,6 +3,8 @@ use Rattle.std.specs.FinMap as map
 use Rattle.std.proofs.lemmas.List.Elements.{All-head}
 use Rattle.rad_lane.specs.Book.{Book}
 use Rattle.rad_lane.specs.internal.Invariant.{HasRoom}
+use Rattle.rad_lane.specs.Outstanding.{Outstanding}
+use Rattle.rad_lane.proofs.NextDueFound.{before_put}
 use Rattle.rad_lane.proofs.LawfulAfterWatch.{few_up}
 use Rattle.rad_lane.proofs.LawfulAfterSend.{stands_sent, sends}
 use Rattle.rad_lane.proofs.lane.Lane.send_first.Goals as goal
@@ -33,6 +35,10 @@ invariant_of-self g c = record {
       rw (c.put.ensures, c.first-sending.ensures.sending)
       (stands_sent _ _ _ c.unwrap-record.result (g.Q.Fifo.items c.pop_front.new.self) _ _ c.self.inside.slots _ _ _ c.args.now c.free_slot-slot.result _ same c.requires.later c.requires.is_up free c.requires.may.room _ c.free_slot-slot.ensures.in_range _ _ _ stands);
   bounded = c.self.invariant.bounded;
+  none_before =
+      let due = ap (λ (e : Outstanding). e.due) c.first-sending.ensures.sending in
+      rw (c.put.ensures, c.min-self-inside.ensures)
+      (before_put _ _ _ _ _ c.self.invariant.none_before (omega arith) (omega (arith, c.due.ensures)));
 }
 
 pub returns-clause-steps : goal.returns-clause-steps
