@@ -199,7 +199,7 @@ def the_life():
 # The column and the row of each crate.
 PLACES = {
     "rad_proxy": (2, 0), "library_tests": (3, 0),
-    "rad_telemetry": (2, 1), "ledger_writer": (4, 1), "rad_audit": (5, 1),
+    "rad_telemetry": (2, 1), "memory_disk": (3, 1), "ledger_writer": (4, 1), "rad_audit": (5, 1),
     "config_json": (0, 2), "rad_replay": (1, 2), "rad_server": (2, 2), "spool_writer": (3, 2), "ledger_lines": (4, 2), "ledger_files": (5, 2),
     "rad_console": (2, 3), "rad_metrics": (3, 3), "ledger_rules": (4, 3),
     "rad_advice": (0, 4), "rad_addresses": (1, 4), "ledger_state": (2, 4), "spool_runs": (4, 4), "rad_simulation": (5, 4),
@@ -212,7 +212,7 @@ PLACES = {
     "rad_packet": (2, 11),
 }
 # Between which columns an arrow goes down that would meet a crate in its target's column.
-GUTTERS = {("library_tests", "ledger_lines"): 3.5, ("library_tests", "spool_files"): 4.5, ("config_json", "json_objects"): 4.5,
+GUTTERS = {("library_tests", "ledger_lines"): 3.5, ("config_json", "json_objects"): 4.5,
            ("ledger_lines", "json_objects"): 4.5,
            ("rad_audit", "rad_files"): 0.5, ("rad_audit", "rad_log"): 1.5, ("ledger_rules", "rad_lane"): 3.5,
            ("rad_proxy", "rad_advice"): 0.5, ("config_json", "rad_files"): 0.5, ("config_json", "rad_log"): 0.5,

@@ -11,7 +11,7 @@ import sys
 from tests.lib import TOP, conclude
 
 CRATES = TOP / "crates"
-LEFT_OUT = ("library_tests/", "rad_simulation/")
+LEFT_OUT = ("library_tests/", "memory_disk/", "rad_simulation/")
 NUMBER = re.compile(r"^ *(?:pub(?:\(crate\))? )?const ([A-Z_0-9]+): (?:[ui](?:8|16|32|64)|usize) = ([^;]+);", re.M)
 BOUND = re.compile(r"within\(numbers\.(\w+), (\S+), (\S+), LimitFault")
 
@@ -144,7 +144,6 @@ NUMBERS = {
         "OTHERS": ("0o077", "ledger/resumed a_folder_of_another_process_or_for_others_is_refused"),
     },
     "spool_writer/src/surveying.rt": {"TRIES": ("5", CHOICE)},
-    "spool_writer/src/tests.rt": {"AMPLE": ("1 << 34", CHOICE)},
     "spool_writer/src/writer.rt": {"AGAIN": ("1000", CHOICE), "BATCH": ("1 << 22", CHOICE), "GREATEST_REQUEST": ("4096", PROVED), "LOOK": ("20", CHOICE), "PAUSE": ("50", CHOICE)},
     "ledger_writer/src/filling.rt": {"SIZE": ("262_144", CHOICE), "LINES": ("1024", CHOICE)},
     "ledger_writer/src/inlet.rt": {"LOOK": ("1", CHOICE), "DUE": ("16", CHOICE), "MOST_LOST": ("256", FORM)},

@@ -2,22 +2,28 @@
 
 usage: python3 -m tests.ledger.resumed PROGRAM [NAME ..]
 
+The auditor and the reader of configurations are beside PROGRAM, or where `make build` leaves them.
+
 Each test is a function below, and its first line tells what holds. Names choose tests. Each request of the NAS is sent once, and has its
 number as its session. What is on disk is read by another hand than the program's. The last line is `N passed, M failed`.
 """
 import json
 import os
+import re
 import select
 import shutil
 import signal
 import subprocess
+import sys
 import time
 import zlib
 
-from tests.lib import (ACCOUNTING_REQUEST, ACCT_SESSION_ID, HERE, NOTHING_LEFT, PATIENCE, SECRET, USER_NAME, Home, LeftOut, Proxy, Server, answer, attribute, bound, built,
+from tests.lib import (ACCOUNTING_REQUEST, ACCT_SESSION_ID, HERE, NOTHING_LEFT, PATIENCE, SECRET, TOP, USER_NAME, Home, LeftOut, Proxy, Server, answer, attribute, bound, built,
                        configured, environment, free_port, hope, need, request, status, try_named, until, user_name)
+from tests.ledger.asked import built as beside
 from tests.lib.model import attributes_of
 from tests.lib.spool import segments
+from tests.lib.tools import running
 
 # A home server is marked down half a second after a request that it does not answer, and is probed at once.
 HASTY = "first_wait = 500\ntries = 1\ndown_wait = 1000\n"
@@ -33,8 +39,8 @@ REFUSED, LEFT_OVER = 5, 3
 LOGGED = 20
 # How many octets a request has at most, since the mark has to find room, and an attribute that makes it longer.
 LONGEST, REPLY_MESSAGE = 4096 - 12, 18
-# How many octets a short spool may have.
-LIMIT = 2000
+# How many octets a short spool may have, and one that is longer, but less than a segment.
+LIMIT, SMALL = 2000, 100_000
 # A span that no test outlasts, and the seconds of a day.
 LONG, DAY = "span = 600000\n", 86_400
 
@@ -70,10 +76,37 @@ class Resumed(Proxy):
             home.hear()
             home.came.clear()
 
+    def files(self):
+        """The files of its ledger, the oldest first. Of two of one moment it is not known which is."""
+        return sorted(self.ledger.glob("*.jsonl"), key=lambda file: json.loads(file.read_text("utf-8").splitlines()[0])["time"])
+
+    def ledger_lines(self, *kinds):
+        """The lines of its ledger of these kinds, the oldest file first."""
+        lines = [json.loads(line) for file in self.files() for line in file.read_text("utf-8").splitlines()]
+        return [line for line in lines if line["type"] in kinds]
+
     def lines_left(self):
         """The lines of its ledger about what was left."""
-        lines = [json.loads(line) for file in sorted(self.ledger.glob("*.jsonl")) for line in file.read_text("utf-8").splitlines()]
-        return [line for line in lines if line["type"] == "left"]
+        return self.ledger_lines("left")
+
+    def runs(self):
+        """The names of its runs, the oldest first."""
+        return [line["run"] for line in self.ledger_lines("begin")]
+
+    def resumed(self):
+        """What its ledger says of requests that were taken over, by run: the lane, the record, and what names the first acceptance."""
+        found = {run: [] for run in self.runs()}
+        for line in self.ledger_lines("resumed"):
+            hope("the keys", list(line), ["type", "run", "time", "home", "lane", "record", "first_run", "first_lane", "first_record", "sum"])
+            hope("the home server", line["home"], f"h{line['lane']}")
+            found[line["run"]].append((line["lane"], line["record"], (line["first_run"], line["first_lane"], line["first_record"])))
+        return found
+
+    def audits(self, program, *words):
+        """What an auditor prints of its ledger, and its status."""
+        ran = subprocess.run([*program, *words, str(self.file), *map(str, self.files())], capture_output=True, text=True, timeout=60, check=False)
+        hope("errors", ran.stderr, "")
+        return ran.stdout.splitlines(), ran.returncode
 
     def left(self):
         """The same, by lane and number."""
@@ -133,6 +166,9 @@ class Resumed(Proxy):
         entries = self.on_disk()
         return [{fields[:4] for name, fields, _ in entries if name == kind} for kind in ("came", "answered")]
 
+    def octets_on_disk(self):
+        return sum(file.stat().st_size for file in self.spool.glob("*.spool"))
+
     def has_on_disk(self, came, answered=0):
         """Waits until so many requests and so many of their answers are on disk."""
         until("all is on disk", lambda: tuple(map(len, self.kept())) == (came, answered))
@@ -190,6 +226,164 @@ def what_waits_at_an_end_in_order_arrives_too(proxy):
         home.came.clear()
     proxy.begin()
     hope("sessions", proxy.serve([40, 0]), [list(range(40)), []])
+
+
+def each_request_that_a_run_takes_over_has_a_line(proxy):
+    """Over three runs of three lanes, two of which are killed, each request has a line that names its first acceptance, in each run that took it over, before its entry."""
+    (proxy.room / "three").mkdir()
+    three = Resumed(proxy.program, proxy.room / "three", count=3)
+    try:
+        three.begin()
+        three.ask(2, lane=2)
+        three.serve([0, 0, 2])
+        three.responses(2)
+        for lane, count in enumerate((4, 1, 3)):
+            three.ask(count, lane)
+        three.has_on_disk(10, 2)
+        three.dies()
+        three.begin()
+        until("all are taken over", lambda: three.counter("accepted_total") == 8)
+        three.ask(1)
+        three.ask(2, lane=1)
+        three.has_on_disk(13, 2)
+        three.dies()
+        three.begin()
+        hope("sessions", three.serve([5, 3, 3]), [[0, 1, 2, 3, 4], [0, 1, 2], [2, 3, 4]])
+        three.responses(11)
+        hope("end", three.ends(0), NOTHING_LEFT)
+        first, second, third = three.runs()
+        taken = {lane: [(lane, record, (first, lane, record + (2 if lane == 2 else 0))) for record in range(count)] for lane, count in enumerate((4, 1, 3))}
+        more = {0: [(0, 4, (second, 0, 4))], 1: [(1, 1, (second, 1, 1)), (1, 2, (second, 1, 2))], 2: []}
+        found = three.resumed()
+        of = lambda run: {lane: [it for it in found[run] if it[0] == lane] for lane in range(3)}
+        hope("the first run", found[first], [])
+        hope("the second run", of(second), taken)
+        hope("the third run", of(third), {lane: taken[lane] + more[lane] for lane in range(3)})
+        lines = [(line["type"], line["run"], line["lane"], line["record"]) for line in three.ledger_lines("resumed", "entry")]
+        for line in lines[:]:
+            hope("its line is before its entry", line[0] == "resumed" or line[1] == first or lines.index(("resumed", *line[1:])) < lines.index(line), True)
+        is_joined_by_the_tools(three, (first, second, third))
+    finally:
+        three.stop()
+
+
+def is_joined_by_the_tools(three, runs):
+    """What the auditor, its model and rad_ledger say of that ledger."""
+    first, second, third = runs
+    model = three.audits([sys.executable, str(TOP / "tests" / "lib" / "audit_model.py")])
+    counts = [line for line in model[0] if " resumed " in line]
+    hope("counts", counts, [f"run {run} lane {lane} h{lane} resumed {count}" for run, all_of in ((second, (4, 1, 3)), (third, (5, 3, 3))) for lane, count in enumerate(all_of)])
+    hope("status", model[1], 6)
+    auditor = beside(three.program, "rad_audit")
+    hope("the auditor", three.audits([auditor]), model)
+    words = ["--program", auditor, "--session", "2", str(three.file), *map(str, three.files())]
+    for more in ([], ["--index", str(three.room / "index")], ["--index", str(three.room / "index")]):
+        ran = running.run("rad_ledger", "find", *more, *words)
+        hope("errors", (ran.stderr, b"3 records" in ran.stdout), (b"", True))
+        told = {}
+        for paragraph in ran.stdout.decode().split("\n\n"):
+            if its := re.search(r"record (\d+) of lane (\d+), home server \S+, run (\S+)", paragraph):
+                told[its[3], int(its[2]), int(its[1])] = re.findall(r"first acceptance is record (\d+) of lane (\d+), run (\S+)", paragraph)
+        hope("first acceptances", told, {(third, 0, 2): [("2", "0", first)], (third, 1, 2): [("2", "1", second)], (third, 2, 0): [("2", "2", first)]})
+
+
+def what_is_left_and_taken_over_is_joined(proxy):
+    """What an end in order leaves names the record as which the next run took it over, and that one its first acceptance; sum counts each once."""
+    proxy.begin()
+    proxy.ask(3)
+    proxy.has_on_disk(3)
+    need(proxy.ends().startswith("end: "), "no end line")
+    for home in proxy.homes:
+        home.hear()
+        home.came.clear()
+    proxy.begin()
+    hope("sessions", proxy.serve([3, 0]), [[0, 1, 2], []])
+    proxy.responses(3)
+    hope("end", proxy.ends(0), NOTHING_LEFT)
+    first, second = proxy.runs()
+    ran = running.run("rad_ledger", "find", "--program", beside(proxy.program, "rad_audit"), "--session", "1", str(proxy.file), *map(str, proxy.files()))
+    hope("errors", (ran.returncode, ran.stderr), (0, b""))
+    left, answered = ran.stdout.decode().split("\n\n")[:2]
+    hope("left", f"  the spool has it, and offers it to the next run\n  a later run took it over: record 1 of lane 0, run {second}\n" in left, True)
+    hope("answered", f"  an earlier run left it: its first acceptance is record 1 of lane 0, run {first}\n  answer 1 of the lane" in answered, True)
+
+
+def what_waits_for_room_has_no_line_yet(proxy):
+    """Of requests for which there is no room only those that the lane took have a line, and new ones behind them have none in either run."""
+    proxy.begin()
+    proxy.ask(200)
+    proxy.has_on_disk(200)
+    proxy.dies()
+    whole = proxy.file.read_text("utf-8")
+    proxy.file.write_text(proxy.configuration(HASTY + f"queue = {QUEUE}\n"), "utf-8")
+    proxy.begin()
+    until("what has room is taken", lambda: proxy.counter("accepted_total") == QUEUE + WINDOW)
+    proxy.ask(2)
+    proxy.ask(1, lane=1)
+    proxy.has_on_disk(201)
+    until("its lines are written", lambda: len(proxy.resumed()[proxy.runs()[1]]) == QUEUE + WINDOW)
+    proxy.dies()
+    first, second = proxy.runs()
+    hope("the second run", proxy.resumed()[second], [(0, number, (first, 0, number)) for number in range(QUEUE + WINDOW)])
+    proxy.file.write_text(whole, "utf-8")
+    proxy.begin()
+    hope("sessions", proxy.serve([200, 1]), [list(range(200)), [0]])
+    proxy.responses(201)
+    hope("end", proxy.ends(0), NOTHING_LEFT)
+    third = proxy.runs()[2]
+    hope("the third run", sorted(proxy.resumed()[third]), [*((0, number, (first, 0, number)) for number in range(200)), (1, 0, (second, 1, 0))])
+
+
+def without_a_spool_a_ledger_is_as_before(proxy):
+    """Without a spool a kill leaves nothing that the next run takes over, and a repeat is a new request: the ledger has no line of an earlier run."""
+    proxy.begin(RAD_PROXY_SPOOL="")
+    asked = proxy.ask(3)
+    proxy.serve([3, 0])
+    proxy.responses(3)
+    proxy.dies()
+    proxy.begin(RAD_PROXY_SPOOL="")
+    proxy.nas.sendto(asked[1], proxy.listen)
+    hope("sessions", proxy.serve([1, 0]), [[1], []])
+    proxy.responses(1)
+    hope("end", proxy.ends(0), NOTHING_LEFT)
+    hope("lines", {line["type"] for line in proxy.ledger_lines("begin", "entry", "left", "unsent", "again", "resumed", "end")}, {"begin", "entry", "end"})
+
+
+def an_answer_of_an_earlier_run_is_named_where_it_is_sent_again(proxy):
+    """A repeat of what earlier runs answered is counted with the run, the lane and the serial of its answer, beside one of this run with its record."""
+    proxy.file.write_text(proxy.configuration(HASTY + LONG), "utf-8")
+    proxy.begin()
+    asked = proxy.ask(3, lane=1)
+    proxy.serve([0, 3])
+    proxy.responses(3)
+    proxy.has_on_disk(3, 3)
+    until("its entries are written", lambda: len(proxy.ledger_lines("entry")) == 3)
+    proxy.dies()
+    proxy.begin()
+    own = proxy.ask(1, lane=1)
+    proxy.serve([0, 1])
+    proxy.responses(1)
+    for octets in (asked[2], asked[0], asked[2], own[0], asked[2]):
+        proxy.nas.sendto(octets, proxy.listen)
+        proxy.responses(1)
+    hope("end", proxy.ends(0), NOTHING_LEFT)
+    first, second = proxy.runs()
+    again = proxy.ledger_lines("again")
+    hope("runs", {line["run"] for line in again}, {second})
+    serials = {line["record"]: line["serial"] for line in proxy.ledger_lines("entry") if line["run"] == first}
+    hope("what is counted", sorted((line["home"], line["lane"], line.get("answer_run"), line.get("answer_lane"), line.get("answer_serial"), line.get("record"), line["count"])
+                                   for line in again if "answer_run" in line),
+         sorted(("h1", 1, first, 1, serials[number], None, count) for number, count in ((2, 3), (0, 1))))
+    hope("its own", [(line["lane"], line["record"], line["count"]) for line in again if "record" in line], [(1, 0, 1)])
+    hope("the keys", {tuple(line) for line in again if "answer_run" in line},
+         {("type", "run", "time", "home", "lane", "answer_run", "answer_lane", "answer_serial", "count", "sum")})
+    model = proxy.audits([sys.executable, str(TOP / "tests" / "lib" / "audit_model.py")])
+    hope("status", model[1], 6)
+    hope("the auditor", proxy.audits([beside(proxy.program, "rad_audit")]), model)
+    words = ["--program", beside(proxy.program, "rad_audit"), "--session", "2", str(proxy.file), *map(str, proxy.files())]
+    for more in ([], ["--index", str(proxy.room / "index")]):
+        ran = running.run("rad_ledger", "find", *more, *words)
+        hope("how often", [line.strip() for line in ran.stdout.decode().splitlines() if "again" in line], ["later runs sent the response again 3 times"])
 
 
 def what_is_left_is_told_as_kept(proxy):
@@ -711,13 +905,48 @@ def a_spool_at_its_limit_is_told_and_the_service_goes_on(proxy):
     until("it is told", lambda: proxy.lines("spool-fault"))
     hope("why", proxy.lines("spool-fault")[0]["reason"], "the limit is reached")
     hope("sessions", proxy.serve([44, 0]), [list(range(44)), []])
-    need(sum(file.stat().st_size for file in proxy.spool.glob("*.spool")) <= LIMIT, "more octets than may be")
+    need(proxy.octets_on_disk() <= LIMIT, "more octets than may be")
     proxy.dies()
     proxy.log.write_text("")
     proxy.begin(RAD_PROXY_SPOOL_LIMIT="some")
     proxy.ask(1, lane=1)
     hope("sessions without a spool", proxy.serve([0, 1]), [[], [0]])
     hope("why", [line["reason"] for line in proxy.lines("spool-fault")], ["RAD_PROXY_SPOOL_LIMIT is no number"])
+
+
+def a_full_spool_is_told_once(proxy):
+    """What a silent home server has to get nearly fills the spool: that it is full is told once, and not that it is back, while another one answers."""
+    proxy.begin(RAD_PROXY_SPOOL_LIMIT=str(LIMIT))
+    silent = proxy.homes.pop()
+    while proxy.octets_on_disk() <= LIMIT - LIMIT // 8:
+        proxy.ask(1, lane=1)
+        proxy.has_on_disk(proxy.sent[1])
+    for first in range(0, 15, 3):
+        proxy.ask(3)
+        time.sleep(0.3)
+        hope("sessions", proxy.serve([3]), [[first, first + 1, first + 2]])
+        time.sleep(1.2)
+    proxy.homes.append(silent)
+    hope("how often it is told, and that it is back", (len(proxy.lines("spool-fault")), proxy.lines("spool-back")), (1, []))
+
+
+def a_small_spool_lets_go_of_what_is_over(proxy):
+    """A spool of less than a segment's greatest length lets go of what is over, also behind a request that stays open, which a kill leaves."""
+    proxy.file.write_text(proxy.configuration(HASTY + "span = 0\n"), "utf-8")
+    proxy.begin(RAD_PROXY_SPOOL_LIMIT=str(SMALL))
+    proxy.ask(1, lane=1)
+    proxy.has_on_disk(1)
+    silent = proxy.homes.pop()
+    for first in range(0, 20 * BURST, BURST):
+        proxy.ask(BURST)
+        hope("sessions", proxy.serve([BURST]), [list(range(first, first + BURST))])
+        time.sleep(0.2)
+    until("what is over goes", lambda: proxy.octets_on_disk() < SMALL / 2)
+    hope("faults", proxy.lines("spool-fault"), [])
+    proxy.homes.append(silent)
+    proxy.dies()
+    proxy.begin(RAD_PROXY_SPOOL_LIMIT=str(SMALL))
+    hope("sessions", proxy.serve([0, 1]), [[], [0]])
 
 
 def a_repeat_of_what_was_answered_does_not_wait_behind_others(proxy):
@@ -802,7 +1031,9 @@ def a_clock_that_was_ahead_once_does_not_fill_the_disk(proxy):
 
 
 TESTS = [
-    what_waits_at_a_kill_arrives_after_the_next_start, what_waits_at_an_end_in_order_arrives_too, what_is_left_is_told_as_kept,
+    what_waits_at_a_kill_arrives_after_the_next_start, what_waits_at_an_end_in_order_arrives_too, each_request_that_a_run_takes_over_has_a_line,
+    what_is_left_and_taken_over_is_joined, what_waits_for_room_has_no_line_yet, without_a_spool_a_ledger_is_as_before,
+    an_answer_of_an_earlier_run_is_named_where_it_is_sent_again, what_is_left_is_told_as_kept,
     what_a_failing_disk_has_not_is_not_told_as_kept, an_end_waits_for_a_slow_disk_but_not_for_one_that_hangs, nothing_that_was_answered_comes_again,
     a_repeat_of_what_an_earlier_run_answered_gets_the_same_octets, what_no_longer_passes_the_checks_is_told_and_stays,
     what_finds_no_room_waits_and_nothing_overtakes_it, new_requests_wait_behind_those_of_earlier_runs, a_folder_of_another_process_or_for_others_is_refused, damage_is_told_and_the_rest_arrives,
@@ -811,7 +1042,7 @@ TESTS = [
     each_damage_of_one_of_three_segments_is_told_and_the_rest_arrives, a_clock_that_was_set_between_two_runs_loses_nothing,
     each_change_of_the_configuration_keeps_what_waits, one_home_server_that_is_away_holds_up_no_other, the_longest_request_arrives_whole,
     a_drain_leaves_what_waits_in_the_spool, a_repeat_is_known_wherever_its_request_is, a_spool_at_its_limit_is_told_and_the_service_goes_on,
-    a_repeat_of_what_was_answered_does_not_wait_behind_others, a_folder_that_is_removed_is_told,
+    a_full_spool_is_told_once, a_small_spool_lets_go_of_what_is_over, a_repeat_of_what_was_answered_does_not_wait_behind_others, a_folder_that_is_removed_is_told,
     what_was_answered_does_not_come_again_after_a_fault, a_segment_that_is_in_the_way_stays, a_clock_that_was_ahead_once_does_not_fill_the_disk,
 ]
 

@@ -32,10 +32,15 @@ OPTIONAL = WORDS | {f"{word}_octets" for word in WORDS} | {"status"}
 LEFT = HEAD | {"home", "lane", "record", "client", "port", "identifier", "authenticator", "state", "request"}
 STATES = {"queued", "outstanding", "untaken"}
 LIMITS = {"lane": 2**16, "serial": 2**63, "record": 2**64, "port": 2**16, "identifier": 2**8, "status": 2**32, "file": 2**64, "entries": 2**64,
-          "accepted": 2**64, "left": 2**64, "sendings": 2**32, "hidden": 2**32, "count": 2**64}
+          "accepted": 2**64, "left": 2**64, "sendings": 2**32, "hidden": 2**32, "count": 2**64, "answer_lane": 2**16, "answer_serial": 2**63, "first_lane": 2**16,
+          "first_record": 2**64}
 SHA_256 = re.compile("[0-9a-fA-F]{64}")
-KINDS = "entry", "left", "unsent", "again"
+KINDS = "entry", "left", "unsent", "again", "resumed"
 COUNT = HEAD | {"home", "lane", "record", "count"}
+# What an `again` line has if an earlier run answered, and a line of a request that was taken over.
+EARLIER = HEAD | {"home", "lane", "answer_run", "answer_lane", "answer_serial", "count"}
+RESUMED = HEAD | {"home", "lane", "record", "first_run", "first_lane", "first_record"}
+RUN = re.compile("[0-9a-fA-F]{16}")
 # The end of a line, which has its sum: in lower case, and last.
 TAIL = re.compile(rb'(?s)(.*),"sum":"([0-9a-f]{64})"\}')
 # The categories of characters that are not printed as they are.
@@ -153,7 +158,7 @@ def read_line(octets):
         return line
     need(HEAD <= keys)
     are_right(HEAD, line)
-    need(re.fullmatch("[0-9a-fA-F]{16}", line["run"]) and is_time(line["time"]))
+    need(RUN.fullmatch(line["run"]) and is_time(line["time"]))
     need(kind in ("begin", "end", *KINDS))
     if kind == "begin":
         need(keys - {"before", "hidden"} == HEAD | {"version", "file", "lanes"})
@@ -165,8 +170,13 @@ def read_line(octets):
         are_right(keys & {"hidden"}, line)
         read_lanes(line, {"lane", "entries"}, {"lane", "entries", "accepted", "left"})
     elif kind in ("unsent", "again"):
-        need(keys == COUNT and line["count"])
+        need((keys == COUNT or kind == "again" and keys == EARLIER) and line["count"])
         are_right(keys, line)
+        need(RUN.fullmatch(line.get("answer_run", line["run"])))
+    elif kind == "resumed":
+        need(keys == RESUMED)
+        are_right(keys, line)
+        need(RUN.fullmatch(line["first_run"]))
     else:
         read_request(keys, ENTRY if kind == "entry" else LEFT, line)
         accepted = line.get("accepted", line["time"])
@@ -421,6 +431,8 @@ class Audit:
             lane["events"].append((lane["end"], lane["told"]))
             if lane["next"] < lane["end"]:
                 self.lacks(place, named(run, lane), lane["next"], lane["end"] - 1)
+            if lane["resumed"] and lane["told"] and any(number >= lane["told"][0] for number, _ in lane["resumed"]):
+                self.is_wrong(place, "UnknownRecord")
 
     def take_count(self, place, line):
         """A count of what became of a response."""
@@ -428,8 +440,26 @@ class Audit:
         if lane is None or lane["home"] != line["home"]:
             return self.is_wrong(place, "UnknownLane")
         numbers = lane["numbers"]
+        if "answer_run" in line:
+            if line["answer_run"].lower() == line["run"].lower():
+                return self.is_wrong(place, "UnknownRecord")
+            return lane["events"].append(None)
         if line["record"] >= numbers.exact_from and line["record"] not in numbers.numbers and lane["entries"] == lane["next"]:
             return self.is_wrong(place, "UnknownRecord")
+        lane["events"].append(None)
+
+    def take_resumed(self, place, line):
+        """A request that a lane took over from an earlier run."""
+        lane = self.lane(line["run"].lower(), line["lane"])
+        if lane is None or lane["home"] != line["home"]:
+            return self.is_wrong(place, "UnknownLane")
+        run, old, number = line["first_run"].lower(), line["first_lane"], line["first_record"]
+        if run == line["run"].lower():
+            return self.is_wrong(place, "UnknownRecord")
+        last, first = lane["resumed"][-1] if lane["resumed"] else (-1, None)
+        if lane["numbers"].has(line["record"]) or line["record"] <= last or first and first[:2] == (run, old) and number <= first[2]:
+            return self.is_wrong(place, "RecordTwice")
+        lane["resumed"].append((line["record"], (run, old, number)))
         lane["events"].append(None)
 
     def expect(self, begin):
@@ -491,7 +521,7 @@ class Audit:
         self.files[run] = first, max(following, min(file + 1, 2**64 - 1))
         if run not in self.runs:
             self.before[run] = begin.get("before")
-            self.runs[run] = [{**lane, **fresh, "numbers": Numbers(), "events": [], "next": lane["serial"], "hidden": {"entry": 0, "left": 0}}
+            self.runs[run] = [{**lane, **fresh, "numbers": Numbers(), "events": [], "resumed": [], "next": lane["serial"], "hidden": {"entry": 0, "left": 0}}
                               for lane in begin["lanes"]]
             self.expect(begin)
 
@@ -506,6 +536,8 @@ class Audit:
             self.take_left(place, line)
         elif kind in ("unsent", "again"):
             self.take_count(place, line)
+        elif kind == "resumed":
+            self.take_resumed(place, line)
         elif kind == "end":
             self.take_end(place, line)
 
@@ -596,6 +628,8 @@ class Audit:
             self.printed.append(f"{named(run, lane)} more than {MOST_RANGES} ranges")
         if lane["back"]:
             self.printed.append(f"{named(run, lane)} steps back in time {lane['back']}")
+        if lane["resumed"]:
+            self.printed.append(f"{named(run, lane)} resumed {len(lane['resumed'])}")
 
     def tell_of_all(self, run):
         """Tells of a run what is told of all its lanes together."""

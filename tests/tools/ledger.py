@@ -869,6 +869,40 @@ def what_a_spool_has_is_told(program, folder):
         hope(f"what is told {more}", sorted(told), [(False, False)] * 3 + [(True, True)] * 2)
 
 
+def what_runs_took_over_is_joined(program, folder):
+    """Of a record that runs took over its first acceptance is told, and as which records later ones took it over; and how often later runs sent its response again."""
+    stage = Stage(program, folder)
+    first, second, third = (Ledger(folder, run, moment=3_600_000 * run) for run in (7, 8, 9))
+    left = lambda ledger, session: ledger.lines.append({**ledger.made.left(session=session), "kept": True})
+    line = lambda ledger, kind, **keys: ledger.lines.append({**ledger.made.head(kind), "home": "billing", "lane": 0, **keys})
+    names = [f"{run:016x}" for run in (7, 8, 9)]
+    of = lambda run, record: {"first_run": names[run], "first_lane": 0, "first_record": record}
+    for session in (b"S0", b"S1"):
+        left(first, session)
+    second.add(b"S2")
+    line(second, "resumed", record=1, **of(0, 0))
+    line(second, "resumed", record=2, **of(0, 1))
+    second.add(b"S0")
+    left(second, b"S1")
+    line(third, "resumed", record=0, **of(0, 1))
+    third.add(b"S1")
+    line(third, "again", answer_run=names[1].upper(), answer_lane=0, answer_serial=1, count=4)
+    line(third, "again", record=0, count=2)
+    line(third, "again", answer_run=names[1], answer_lane=0, answer_serial=1, count=3)
+    paths = [it.write().path for it in (first, second, third)]
+    name = lambda run, record: f"record {record} of lane 0, run {names[run]}"
+    earlier, later = "an earlier run left it: its first acceptance is ", "a later run took it over: "
+    wanted = {"S0": [[later + name(1, 1)], [earlier + name(0, 0), "later runs sent the response again 7 times"]],
+              "S1": [[later + name(1, 2), later + name(2, 0)], [earlier + name(0, 1), later + name(2, 0)],
+                     [earlier + name(0, 1), "the client repeated its request, and was sent the response again 2 times"]], "S2": [[]]}
+    for more in ([], ["--index", pathlib.Path(folder, "index")], ["--index", pathlib.Path(folder, "index")]):
+        for session, its in wanted.items():
+            out, _ = stage.told(WHOLE, "find", *more, "--session", session, stage.config, *paths)
+            told = [[it.strip() for it in paragraph.splitlines() if "earlier run" in it or "later run" in it or "again" in it]
+                    for paragraph in out.split("\n\n") if " of session " in paragraph]
+            hope(f"{session} {more}", told, its)
+
+
 def one_home_servers_records_are_handed_out(program, folder):
     """The files that are handed out have the lines of one home server alone, and the sums of the others; they are those of the ledger, so
     that a line that is changed later is found. What was cut short is left away, and no file is written over."""
@@ -876,7 +910,9 @@ def one_home_servers_records_are_handed_out(program, folder):
     for at in range(6):
         run.add(b"%s-%d" % (list(HOMES)[at % 2].encode(), at), home=at % 2)
     second = run.made.begin()
-    lines = chained([*run.lines[:4], second, *run.lines[4:], run.made.left(1, session=b"spare-7"), run.made.end_of_all()])
+    resumed = [{**run.made.head("resumed"), "home": home, "lane": lane, "record": record, "first_run": f"{8:016x}", "first_lane": lane, "first_record": 0}
+               for home, lane, record in (("billing", 0, 2), ("spare", 1, 1))]
+    lines = chained([*run.lines[:4], second, *resumed, *run.lines[4:], run.made.left(1, session=b"spare-7"), run.made.end_of_all()])
     texts = [text(lines[:4]).encode() + text(run.lines[4:5]).encode()[:200], text(lines[4:]).encode()]
     ledger = stage.folder / "ledger"
     ledger.mkdir()
@@ -885,13 +921,13 @@ def one_home_servers_records_are_handed_out(program, folder):
     out = stage.folder / "out"
     call = lambda *words: running.run("rad_ledger", "hand-out", "--others", *map(str, words), seconds=60)
     ran = call("--home", "billing", out, ledger)
-    hope("what is told", (ran.returncode, ran.stdout, ran.stderr), (0, b"3 records, 4 lines left out\n", b""))
+    hope("what is told", (ran.returncode, ran.stdout, ran.stderr), (0, b"3 records, 5 lines left out\n", b""))
     files = sorted(out.iterdir())
     hope("files", [it.name for it in files], [f"2026-01-31-0000000000000007-00000{at}.jsonl" for at in range(2)])
     handed = b"".join(it.read_bytes() for it in files)
     hope("the others' words", (b"spare-" in handed, handed.count(b'"session":"billing-')), (False, 3))
     hope("lines", [it["type"] for it in map(json.loads, handed.splitlines())],
-         ["begin", "entry", "hidden", "entry", "begin", "hidden", "entry", "hidden", "hidden", "end"])
+         ["begin", "entry", "hidden", "entry", "begin", "resumed", "hidden", "hidden", "entry", "hidden", "hidden", "end"])
     config = stage.write("billing.toml", CONFIG.partition('[[home]]\nname = "spare"')[0].replace("192.0.2.1", "203.0.113.1").encode())
     kept = f"0000000000000007:1:{sum_of(lines).hex()}"
     audited = lambda auditor, *words: subprocess.run([*auditor, "--partial", "--sum", kept, config, *map(str, words)], capture_output=True, check=False)
@@ -902,7 +938,7 @@ def one_home_servers_records_are_handed_out(program, folder):
         told = [it for it in ran.stdout.decode().splitlines() if "lane 1" not in it]
         hope("the audit", (told, ran.returncode), ([
             f"{name} lane 0 billing from 0 entries 3 not judged 3 part", f"{name} lane 0 billing part: not-judged",
-            f"{name} lane 0 billing accepted 3 answered 3 left 0", f"{name} hidden 4"], 0))
+            f"{name} lane 0 billing accepted 3 answered 3 left 0", f"{name} lane 0 billing resumed 1", f"{name} hidden 5"], 0))
         hope("a line that is changed", f"{edited}:2: WrongSum" in audited(auditor, edited, files[1]).stdout.decode(), True)
     again = stage.folder / "again"
     call("--home", "billing", again, *files)
@@ -1129,7 +1165,7 @@ TESTS = [records_are_found, paragraphs_have_all, what_became_of_a_response_is_to
          sums_are_right, tables_are_right, no_text_of_a_table_is_a_formula, volumes_of_64_bits_are_kept, an_import_is_whole_or_nothing, an_import_replaces_what_was_otherwise, an_import_waits_before_it_reads,
          errors_are_one_line,
          details_are_compared, a_comparison_takes_bounded_memory, freeradius_writes_details, cut_anywhere_it_is_right_or_refused, spoiled_anywhere_it_ends_in_words,
-         what_was_left_is_told, what_a_spool_has_is_told, one_home_servers_records_are_handed_out, what_is_handed_out_is_its_owners_alone,
+         what_was_left_is_told, what_a_spool_has_is_told, what_runs_took_over_is_joined, one_home_servers_records_are_handed_out, what_is_handed_out_is_its_owners_alone,
          what_is_handed_out_goes_to_a_file_system_of_its_own, nothing_turns_a_terminal,
          outputs_may_be_closed, times_that_do_not_exist_are_told, it_can_be_stopped, names_are_printed, progress_is_shown_at_a_terminal]
 LONG = [a_gigabyte_takes_bounded_time_and_memory]

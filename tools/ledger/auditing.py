@@ -15,7 +15,7 @@ from dataclasses import dataclass
 
 from trial.faults import CONFIGURATION, FAILED, USAGE, Fault, shown_path, told_by
 
-from .evidence import counts_of, said_of
+from .evidence import LinesBeside, said_of
 from .rows import row_of, visible
 from .sources import STANDARD_INPUT, UNREAD, Source, files_of
 
@@ -266,9 +266,9 @@ class Audit:
         """What the line at each of these places says besides its row."""
         return said_of(self.sources, places)
 
-    def counts(self, records):
-        """How often the responses of these records could not be sent, and were sent again."""
-        return counts_of(self.sources, records)
+    def beside(self, records):
+        """What other lines say of these records and responses."""
+        return LinesBeside(records).read(self.sources)
 
     def place(self, row):
         """The file of a row, and its line there."""

@@ -1,5 +1,5 @@
 """What the lines of a ledger say besides the rows of rad_audit: the Acct-Delay-Time of their packets (RFC 2866 section 5.2), when a request
-was accepted, how often it was sent and whether a spool has it, and what became of a response."""
+was accepted, how often it was sent and whether a spool has it; what became of a response, and which requests a run took over."""
 import json
 import re
 from array import array
@@ -13,7 +13,7 @@ from .sources import lines_in
 PACKET = re.compile(rb'"(?:sent|request)"\s*:\s*"([0-9a-fA-F]*)"')
 ACCEPTED, SENDINGS = re.compile(rb'"accepted"\s*:\s*"([0-9TZ:.-]+)"'), re.compile(rb'"sendings"\s*:\s*(\d+)')
 KEPT = re.compile(rb'"kept"\s*:\s*true')
-COUNTED = re.compile(rb'"type"\s*:\s*"(unsent|again)"')
+BESIDE = re.compile(rb'"type"\s*:\s*"(unsent|again|resumed)"')
 ACCT_DELAY_TIME, HEADER, OCTETS = 41, 20, 4
 
 
@@ -70,27 +70,54 @@ def said_by(source, wanted):
         yield from (Said() for _ in wanted[given:])
 
 
-def counts_of(sources, records=None):
-    """How often the responses of these records, each a run, a lane and a number, could not be sent and were sent again; without records, of
-    all."""
-    counts = Counter()
-    for source in sources:
-        if records == set() or not source.can_be_read_again:
-            continue
+def answer_of(run, lane, serial):
+    """What names a response, where no record does."""
+    return run, lane, f"answer {serial}"
+
+
+class LinesBeside:
+    """What lines say of these records, each a run, a lane and a number, and of responses; without records, of all."""
+
+    def __init__(self, records=None):
+        # How often the response of a record could not be sent, and was sent again; and which a run took over, with its first acceptance.
+        self.records, self.counts, self.firsts = records, Counter(), {}
+
+    def read(self, sources):
+        for source in sources:
+            if self.records == set() or not source.can_be_read_again:
+                continue
+            try:
+                for line in lines_in(source.octets(lambda _: None)):
+                    if BESIDE.search(line[:64]):
+                        self.take(line)
+            except Fault:
+                pass
+        return self
+
+    def take(self, line):
         try:
-            for line in lines_in(source.octets(lambda _: None)):
-                if COUNTED.search(line[:64]):
-                    take_count(line, records, counts)
-        except Fault:
+            its = json.loads(line)
+            record = its["run"].lower(), str(its["lane"]), str(its.get("record"))
+            if its["type"] == "resumed":
+                first = its["first_run"].lower(), str(its["first_lane"]), str(its["first_record"])
+                if self.is_asked(record) or self.is_asked(first):
+                    self.firsts[record] = first
+                return
+            if "answer_run" in its:
+                record = answer_of(its["answer_run"].lower(), str(its["answer_lane"]), its["answer_serial"])
+            if self.is_asked(record):
+                self.counts[record, its["type"]] += its["count"]
+        except (ValueError, KeyError, TypeError, AttributeError):
             pass
-    return counts
 
+    def is_asked(self, record):
+        return self.records is None or record in self.records
 
-def take_count(line, records, counts):
-    try:
-        its = json.loads(line)
-        record = its["run"].lower(), str(its["lane"]), str(its["record"])
-        if records is None or record in records:
-            counts[record, its["type"]] += its["count"]
-    except (ValueError, KeyError, TypeError, AttributeError):
-        pass
+    def first_of(self, record):
+        """The first acceptance of a record that an earlier run left; None of another one."""
+        return self.firsts.get(record)
+
+    def taken_over(self, record):
+        """As which records later runs took one over, in the order of the files."""
+        takers = [it for it, first in self.firsts.items() if first == self.firsts.get(record, record)]
+        return takers[takers.index(record) + 1 :] if record in takers else takers

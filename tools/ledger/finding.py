@@ -3,6 +3,7 @@ import tempfile
 from array import array
 from collections import Counter
 
+from .evidence import answer_of
 from .rows import NONE, Row, visible
 
 # Acct-Status-Types (RFC 2866 section 5.1).
@@ -32,6 +33,11 @@ def times(count):
 def record_of(row):
     """What names a record."""
     return row.run, row.lane, row.record
+
+
+def names_of(row):
+    """What names a record, and its response."""
+    return {record_of(row)} | ({answer_of(row.run, row.lane, row.serial)} if row.is_answered else set())
 
 
 def key_of(row):
@@ -96,19 +102,30 @@ class Found:
             yield Row._make(words), place, self.keys[at], self.told[at]
 
 
-def paragraph(row, place, told, said, counts):
+def named(record):
+    run, lane, number = record
+    return f"record {number} of lane {lane}, run {run}"
+
+
+def paragraph(row, place, told, said, beside):
     realm = "" if row.realm == NONE else f", realm {row.realm}"
     yield f"{kind_of(row)} of session {row.session}, user {row.user}{realm}"
     yield f"  came from {row.client} port {row.port} with Identifier {row.identifier}"
     yield f"  record {row.record} of lane {row.lane}, home server {row.home}, run {row.run}"
+    if first := beside.first_of(record_of(row)):
+        yield f"  an earlier run left it: its first acceptance is {named(first)}"
     yield f"  {state_of(row)}"
     if said.kept:
         yield "  the spool has it, and offers it to the next run"
+    for record in beside.taken_over(record_of(row)):
+        yield f"  a later run took it over: {named(record)}"
     if said.accepted is not None or said.sendings is not None:
         yield "  " + ", ".join([*([f"accepted at {said.accepted}"] if said.accepted else []), *([f"sent {times(said.sendings)}"] if said.sendings else [])])
     for kind, what in (("unsent", "the response could not be sent"), ("again", "the client repeated its request, and was sent the response again")):
-        if counts[record_of(row), kind]:
-            yield f"  {what} {times(counts[record_of(row), kind])}"
+        if beside.counts[record_of(row), kind]:
+            yield f"  {what} {times(beside.counts[record_of(row), kind])}"
+    if row.is_answered and (count := beside.counts[answer_of(row.run, row.lane, row.serial), "again"]):
+        yield f"  later runs sent the response again {times(count)}"
     if said.delay is not None:
         yield f"  Acct-Delay-Time {said.delay}: the access server tried to send it for {said.delay} second{'' if said.delay == 1 else 's'}"
     if row.session != NONE:
@@ -125,12 +142,12 @@ def find(audit, choice):
         counts[key_of(row)] += 1
         found.add(row, audit.place(row), choice.is_within(row))
         if choice.is_within(row):
-            records.add(record_of(row))
+            records |= names_of(row)
     verdict, numbered = audit.verdict(), Numbered(counts)
-    said, responses = list(audit.said(found.marks())), audit.counts(records)
+    said, beside = list(audit.said(found.marks())), audit.beside(records)
     for row, place, key, at in found.in_order():
         number = numbered.number(row, place, key)
         if choice.is_within(row):
-            yield from map(visible, paragraph(row, place, came(*number), said[at], responses))
+            yield from map(visible, paragraph(row, place, came(*number), said[at], beside))
     yield f"{len(said)} record{'' if len(said) == 1 else 's'}{verdict.beside}"
     yield verdict

@@ -13,7 +13,7 @@ from trial.faults import Fault, shown_path, told_by
 from .auditing import NotRead, Sources
 from .sources import MOST_LINE, lines_in
 
-KINDS = ("entry", "left", "unsent", "again")
+KINDS = ("entry", "left", "unsent", "again", "resumed")
 
 
 def read(line):

@@ -7,18 +7,17 @@ import json
 import os
 import sqlite3
 import stat
-from collections import Counter
 from dataclasses import dataclass
 
 import configuration
 from trial.faults import USAGE, Fault, shown_path, told_by
 
 from .auditing import LANE, WRONG_LINE, Audit, Verdict, audit_of, program_of, status_of, words_of
-from .evidence import Said, counts_of, said_in
+from .evidence import LinesBeside, Said, said_in
 from .rows import Row
 from .sources import lines_in
 
-FORM, AT_ONCE, MASK = "rad_ledger index 3", 1 << 20, 0o077
+FORM, AT_ONCE, MASK = "rad_ledger index 4", 1 << 20, 0o077
 # The places of a row, and the other words of it, as rad_audit prints them.
 WORDS = Row._fields[2:]
 SCHEMA = f"""
@@ -27,9 +26,13 @@ CREATE TABLE files (number INTEGER PRIMARY KEY, path, mark, sum);
 CREATE TABLE entries (file INTEGER, line INTEGER, {", ".join(WORDS)}, judged INTEGER, delay INTEGER, accepted, sendings, kept INTEGER,
   PRIMARY KEY (file, line)) WITHOUT ROWID;
 CREATE TABLE counts (run, lane, record, kind, count, PRIMARY KEY (run, lane, record, kind)) WITHOUT ROWID;
+CREATE TABLE resumed (place INTEGER PRIMARY KEY, run, lane, record, first_run, first_lane, first_record);
 CREATE TABLE wrong (file INTEGER, line INTEGER, told, PRIMARY KEY (file, line)) WITHOUT ROWID;
 """
-INDEXES = "CREATE INDEX sessions ON entries (session); CREATE INDEX users ON entries (user);"
+INDEXES = """
+CREATE INDEX sessions ON entries (session); CREATE INDEX users ON entries (user); CREATE INDEX takers ON resumed (run, lane, record);
+CREATE INDEX firsts ON resumed (first_run, first_lane, first_record);
+"""
 KEEP = f"""
 INSERT INTO entries VALUES ({", ".join("?" * (len(WORDS) + 3))}, NULL, NULL, NULL, NULL) ON CONFLICT (file, line)
 DO UPDATE SET judged = excluded.judged WHERE excluded.judged > judged
@@ -157,7 +160,7 @@ class Judgement:
         """Has rad_audit judge it under each configuration."""
         execute = self.database.execute
         execute("BEGIN IMMEDIATE")
-        for name in ("facts", "files", "entries", "counts", "wrong"):
+        for name in ("facts", "files", "entries", "counts", "resumed", "wrong"):
             execute(f"DROP TABLE IF EXISTS {name}")
         for statement in filter(str.strip, SCHEMA.split(";")):
             execute(statement)
@@ -218,7 +221,7 @@ class Judgement:
             is_still = mark_of(source.path) == mark
             execute("INSERT INTO files VALUES (?, ?, ?, ?)", (number, os.path.abspath(source.path), mark, its_sum if is_still else None))
             self.keep_said(number, source)
-        self.keep_counts()
+        self.keep_beside()
         now = datetime.datetime.now(datetime.UTC).strftime("%Y-%m-%dT%H:%M:%SZ")
         facts = {"ask": json.dumps(self.ask), "status": verdict.status, "lines": json.dumps(verdict.lines), "time": now}
         self.database.executemany("INSERT INTO facts VALUES (?, ?)", facts.items())
@@ -228,9 +231,11 @@ class Judgement:
         given = (it for it in found if it[: len(Said._fields)] != Said())
         self.database.executemany("UPDATE entries SET delay = ?, accepted = ?, sendings = ?, kept = ? WHERE file = ? AND line = ?", given)
 
-    def keep_counts(self):
-        counts = counts_of(self.sources).items()
-        self.database.executemany("INSERT INTO counts VALUES (?, ?, ?, ?, ?)", ((*record, kind, str(count)) for (record, kind), count in counts))
+    def keep_beside(self):
+        beside = LinesBeside().read(self.sources)
+        counts = ((*record, kind, str(count)) for (record, kind), count in beside.counts.items())
+        self.database.executemany("INSERT INTO counts VALUES (?, ?, ?, ?, ?)", counts)
+        self.database.executemany("INSERT INTO resumed VALUES (NULL, ?, ?, ?, ?, ?, ?)", ((*record, *first) for record, first in beside.firsts.items()))
 
     def rows(self, choice):
         """The records that have the words that are asked for, whenever they were, in the order of the files."""
@@ -250,10 +255,16 @@ class Judgement:
         for place in places:
             yield Said(*self.database.execute("SELECT delay, accepted, sendings, kept FROM entries WHERE file = ? AND line = ?", place).fetchone())
 
-    def counts(self, records):
-        """How often the responses of these records could not be sent, and were sent again."""
+    def beside(self, records):
+        """What other lines say of these records and responses."""
+        beside, found = LinesBeside(records), []
         ask = "SELECT kind, count FROM counts WHERE run = ? AND lane = ? AND record = ?"
-        return Counter({(record, kind): int(count) for record in records for kind, count in self.database.execute(ask, record)})
+        beside.counts.update({(record, kind): int(count) for record in records for kind, count in self.database.execute(ask, record)})
+        ask = "SELECT * FROM resumed WHERE run = ? AND lane = ? AND record = ? UNION SELECT * FROM resumed WHERE first_run = ? AND first_lane = ? AND first_record = ?"
+        for record in records:
+            found += self.database.execute(ask, (*record, *record))
+        beside.firsts = {tuple(it[1:4]): tuple(it[4:]) for it in sorted(found)}
+        return beside
 
     def verdict(self):
         facts = self.facts()

@@ -5,7 +5,7 @@ use Rattle.json.specs.Find.{get, as_str}
 use Rattle.ledger_lines.specs.Lines.{Denies, HasKind, HasNumber, HasSome, HasText, MayHaveKind, MayHaveNumber, kind_text}
 use Rattle.ledger_lines.specs.declared.faults.LineFault.{LineFault}
 use Rattle.ledger_lines.specs.declared.hidden.HiddenKind.{HiddenKind}
-use Rattle.ledger_lines.specs.declared.hidden.HiddenKind.TheVariants.{Entry, Left, Unsent, Again}
+use Rattle.ledger_lines.specs.declared.hidden.HiddenKind.TheVariants.{Entry, Left, Unsent, Again, Resumed}
 use Rattle.ledger_lines.proofs.Lines.{denied, differ}
 use Rattle.ledger_lines.proofs.Found.{one_number, same_some, NumberThere, TextThere}
 
@@ -17,11 +17,12 @@ module _ (value : Json) where
     one_kind : (other : List ℕ) → HasText (codes "kind") value other → text ≡ other
     one_kind other also = same_some text other (ap as_str (same_some (string text) (string other) (sym t ∙ also)))
 
-    pub no_kind : text ≢ codes "entry" → text ≢ codes "left" → text ≢ codes "unsent" → text ≢ codes "again" → ¬ KindThere
-    no_kind e l u a (Entry, h) = e (one_kind (codes "entry") h)
-    no_kind e l u a (Left, h) = l (one_kind (codes "left") h)
-    no_kind e l u a (Unsent, h) = u (one_kind (codes "unsent") h)
-    no_kind e l u a (Again, h) = a (one_kind (codes "again") h)
+    pub no_kind : text ≢ codes "entry" → text ≢ codes "left" → text ≢ codes "unsent" → text ≢ codes "again" → text ≢ codes "resumed" → ¬ KindThere
+    no_kind e l u a r (Entry, h) = e (one_kind (codes "entry") h)
+    no_kind e l u a r (Left, h) = l (one_kind (codes "left") h)
+    no_kind e l u a r (Unsent, h) = u (one_kind (codes "unsent") h)
+    no_kind e l u a r (Again, h) = a (one_kind (codes "again") h)
+    no_kind e l u a r (Resumed, h) = r (one_kind (codes "resumed") h)
 
   pub no_kind_text : (fault : LineFault) → Denies fault (TextThere (codes "kind") value) → Denies fault KindThere
   no_kind_text fault d = denied (TextThere (codes "kind") value) KindThere (λ p. (kind_text p.0, p.1)) fault d

@@ -6,7 +6,9 @@ use Rattle.json.specs.Json.{Json, string}
 use Rattle.ledger_rules.specs.declared.entry.Entry.{Entry}
 use Rattle.ledger_rules.specs.declared.left.Left.{Left}
 use Rattle.ledger_rules.specs.declared.line_request.LineRequest.{LineRequest}
+use Rattle.ledger_rules.specs.declared.record_count.AnswerCount.{AnswerCount}
 use Rattle.ledger_rules.specs.declared.record_count.RecordCount.{RecordCount}
+use Rattle.ledger_rules.specs.declared.resumed.Resumed.{Resumed}
 use Rattle.ledger_lines.specs.declared.begin.Begin.{Begin}
 use Rattle.ledger_lines.specs.declared.end.End.{End}
 use Rattle.ledger_lines.specs.declared.begin.FileBefore.{FileBefore}
@@ -15,7 +17,7 @@ use Rattle.ledger_lines.specs.declared.lane_start.LaneStart.{LaneStart}
 use Rattle.ledger_lines.specs.declared.record_count.CountKind.{CountKind}
 use Rattle.json_objects.specs.Written.{number_value, object_of}
 use Rattle.ledger_lines.specs.Lines.{truth_if}
-use Rattle.ledger_lines.specs.Written.{begin_slots, begin_value, count_slots, count_value, digits_if_any, end_slots, end_value, entry_slots, entry_value, file_slots, file_value, lane_slots, left_slots, left_value, octets_value, packet_slots, record_count_slots, record_count_value, request_slots, start_slots, start_value, state_slots, sum_slot, text_if_any, words_slots}
+use Rattle.ledger_lines.specs.Written.{answer_count_slots, answer_count_value, begin_slots, begin_value, count_slots, count_value, digits_if_any, end_slots, end_value, entry_slots, entry_value, file_slots, file_value, lane_slots, left_slots, left_value, octets_value, packet_slots, record_count_slots, record_count_value, request_slots, resumed_slots, resumed_value, start_slots, start_value, state_slots, sum_slot, text_if_any, words_slots}
 use Rattle.json_objects.proofs.Fine.{AreFine, IsFine, MayBeFine, deeper, fine_array, fine_both, fine_object}
 
 any_number : (most : ℕ) (its : Option ℕ) → MayBeFine most (option_map number_value its)
@@ -161,3 +163,25 @@ pub fine_record_count_summed : (kind : CountKind) (its : RecordCount) (sum : Lis
 fine_record_count_summed kind its sum =
     deeper 1 128 (object_of (record_count_slots kind its ++ sum_slot sum ∷ [])) (omega arith)
     (fine_object 0 (record_count_slots kind its ++ sum_slot sum ∷ []) refl (fine_both 0 (record_count_slots kind its) (sum_slot sum ∷ []) (count_fine kind its) (sum_fine 0 sum)))
+
+answer_fine : (its : AnswerCount) → AreFine 0 (answer_count_slots its)
+answer_fine its = (plain, (plain, (plain, (plain, (plain, (plain, (plain, (plain, (plain, tt)))))))))
+
+pub fine_answer_count : (its : AnswerCount) → IsFine 128 (answer_count_value its)
+fine_answer_count its = deeper 1 128 (answer_count_value its) (omega arith) (fine_object 0 (answer_count_slots its) refl (answer_fine its))
+
+pub fine_answer_count_summed : (its : AnswerCount) (sum : List ℕ) → IsFine 128 (object_of (answer_count_slots its ++ sum_slot sum ∷ []))
+fine_answer_count_summed its sum =
+    deeper 1 128 (object_of (answer_count_slots its ++ sum_slot sum ∷ [])) (omega arith)
+    (fine_object 0 (answer_count_slots its ++ sum_slot sum ∷ []) refl (fine_both 0 (answer_count_slots its) (sum_slot sum ∷ []) (answer_fine its) (sum_fine 0 sum)))
+
+resumed_fine : (its : Resumed) → AreFine 0 (resumed_slots its)
+resumed_fine its = (plain, (plain, (plain, (plain, (plain, (plain, (plain, (plain, (plain, tt)))))))))
+
+pub fine_resumed : (its : Resumed) → IsFine 128 (resumed_value its)
+fine_resumed its = deeper 1 128 (resumed_value its) (omega arith) (fine_object 0 (resumed_slots its) refl (resumed_fine its))
+
+pub fine_resumed_summed : (its : Resumed) (sum : List ℕ) → IsFine 128 (object_of (resumed_slots its ++ sum_slot sum ∷ []))
+fine_resumed_summed its sum =
+    deeper 1 128 (object_of (resumed_slots its ++ sum_slot sum ∷ [])) (omega arith)
+    (fine_object 0 (resumed_slots its ++ sum_slot sum ∷ []) refl (fine_both 0 (resumed_slots its) (sum_slot sum ∷ []) (resumed_fine its) (sum_fine 0 sum)))

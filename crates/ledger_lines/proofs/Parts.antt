@@ -11,7 +11,7 @@ use Rattle.json.specs.declared.error.Error.TheVariants.{Invalid, OutOfMemory, To
 use Rattle.hex.specs.Hex.{decode_of}
 use Rattle.rad_realms.specs.Address.{address_in}
 use Rattle.json_objects.specs.Written.{IsValue}
-use Rattle.ledger_lines.specs.Lines.{Denies, HasText, HasNumber, HasOctets, HasArray, HasRun, HasState, HasTime, IsTime, HasClient, MayHaveNumber, MayHaveSum, MayHaveTime, MayHaveWords, state_text}
+use Rattle.ledger_lines.specs.Lines.{Denies, HasText, HasNumber, HasOctets, HasArray, HasName, HasState, HasTime, IsTime, HasClient, MayHaveNumber, MayHaveSum, MayHaveTime, MayHaveWords, state_text}
 use Rattle.ledger_lines.specs.declared.faults.LineFault.{LineFault}
 use Rattle.rad_lane.specs.declared.leftover.LeftState.{LeftState}
 use Rattle.rad_lane.specs.declared.leftover.LeftState.TheVariants.{Queued, Outstanding, Untaken}
@@ -58,19 +58,20 @@ module _ (key : List ℕ) (count : ℕ) (value : Json) where
 
 -- ---- runs, moments, addresses
 
+module _ (key : List ℕ) (value : Json) where
+  abbrev pub NameThere : Type 0
+  NameThere = (run : ℕ) × HasName key value run
+
+  pub name_found : (octets : List ℕ) (run : ℕ) → HasArray key 8 value octets → run ≡ from_be_bytes w64 octets → HasName key value run
+  name_found octets run h e = record { octets = octets; there = h; are = sym e }
+
+  pub no_name : ¬ ArrayThere key 8 value → ¬ NameThere
+  no_name n p = n (p.1.octets, p.1.there)
+
+  pub no_name_text : (fault : LineFault) → Denies fault (TextThere key value) → Denies fault NameThere
+  no_name_text fault d = denied (TextThere key value) NameThere (λ p. (p.1.there.digits, p.1.there.there)) fault d
+
 module _ (value : Json) where
-  abbrev pub RunThere : Type 0
-  RunThere = (run : ℕ) × HasRun value run
-
-  pub run_found : (octets : List ℕ) (run : ℕ) → HasArray (codes "run") 8 value octets → run ≡ from_be_bytes w64 octets → HasRun value run
-  run_found octets run h e = record { octets = octets; there = h; are = sym e }
-
-  pub no_run : ¬ ArrayThere (codes "run") 8 value → ¬ RunThere
-  no_run n p = n (p.1.octets, p.1.there)
-
-  pub no_run_text : (fault : LineFault) → Denies fault (TextThere (codes "run") value) → Denies fault RunThere
-  no_run_text fault d = denied (TextThere (codes "run") value) RunThere (λ p. (p.1.there.digits, p.1.there.there)) fault d
-
   abbrev pub ClientThere : Type 0
   ClientThere = (client : List ℕ) × HasClient value client
 

@@ -3,7 +3,8 @@ use Rattle.std.proofs.Common.{◌≡◌, ℕ, ◌^◌, List, [], ◌∷◌, code
 use Rattle.std.specs.Prelude.{option_copied}
 use Rattle.std.specs.List.{AllZip, each_same}
 use Rattle.std.specs.Int.{w64, from_be_bytes}
-use Rattle.json.specs.Json.{Json, Items, no_items, item, array}
+use Rattle.json.specs.Find.{get}
+use Rattle.json.specs.Json.{Json, Items, no_items, item, array, number}
 use Rattle.rad_realms.specs.Address.{address_in}
 use Rattle.ledger_rules.specs.declared.entry.Entry.{Entry}
 use Rattle.ledger_rules.specs.declared.left.Left.{Left}
@@ -19,13 +20,15 @@ use Rattle.ledger_lines.specs.declared.faults.LineFault.{LineFault}
 use Rattle.ledger_lines.specs.declared.faults.LineFault.TheVariants.{NotALine, OutOfMemory}
 use Rattle.ledger_lines.specs.declared.reading.Line.{Line}
 use Rattle.ledger_lines.specs.declared.reading.SummedLine.{SummedLine}
+use Rattle.ledger_rules.specs.declared.record_count.AnswerCount.{AnswerCount}
 use Rattle.ledger_rules.specs.declared.record_count.RecordCount.{RecordCount}
+use Rattle.ledger_rules.specs.declared.resumed.Resumed.{Resumed}
 use Rattle.ledger_lines.specs.declared.hidden.Hidden.{Hidden}
 use Rattle.ledger_lines.specs.declared.hidden.HiddenKind.{HiddenKind}
-use Rattle.ledger_lines.specs.declared.hidden.HiddenKind.TheVariants.{Entry as AnEntry, Left as ALeft, Unsent as AnUnsent, Again as AnAgain}
-use Rattle.ledger_lines.specs.declared.reading.Line.TheVariants.{Begin as begins, Entry as enters, Left as leaves, Unsent as unsends, Again as repeats, End as ends, Hidden as hides}
-use Rattle.ledger_lines.specs.Lines.{AreEach, HasArray, HasClient, HasLanes, HasOctets, HasRun, HasState, HasTime, HasTruth, IsAbout, IsBegin, IsEnd, IsEntry, IsFileBefore, IsLaneCount, IsLaneStart, IsLeft, IsHidden, IsLine, IsLineOf, IsRecordCount, MayHaveFile, MayHaveKind, kind_text, MayHaveNumber, MayHaveSum, MayHaveTime, MayHaveWords, as_items, state_text, truth_if}
-use Rattle.ledger_lines.specs.Same.{GivesBack, IsAnswer, IsSameBegin, IsSameCount, IsSameEnd, IsSameSummed, IsSameEntry, IsSameFile, IsSameFileIfAny, IsSameLeft, IsSameLine, IsSameRequest, IsSameStart}
+use Rattle.ledger_lines.specs.declared.hidden.HiddenKind.TheVariants.{Entry as AnEntry, Left as ALeft, Unsent as AnUnsent, Again as AnAgain, Resumed as AResumed}
+use Rattle.ledger_lines.specs.declared.reading.Line.TheVariants.{Begin as begins, Entry as enters, Left as leaves, Unsent as unsends, Again as repeats, AgainEarlier as recalls, Resumed as resumes, End as ends, Hidden as hides}
+use Rattle.ledger_lines.specs.Lines.{AreEach, HasArray, HasClient, HasLanes, HasName, HasOctets, HasRun, HasState, HasTime, HasTruth, IsAbout, IsAnswerCount, IsBegin, IsEnd, IsEntry, IsFileBefore, IsLaneCount, IsLaneStart, IsLeft, IsHidden, IsLine, IsLineOf, IsRecordCount, IsResumed, MayHaveFile, MayHaveKind, kind_text, MayHaveNumber, MayHaveSum, MayHaveTime, MayHaveWords, as_items, state_text, truth_if}
+use Rattle.ledger_lines.specs.Same.{GivesBack, IsAnswer, IsSameAnswerCount, IsSameBegin, IsSameCount, IsSameEnd, IsSameSummed, IsSameEntry, IsSameFile, IsSameFileIfAny, IsSameLeft, IsSameLine, IsSameRequest, IsSameResumed, IsSameStart}
 use Rattle.ledger_lines.proofs.Found.{one_number, one_text, same_some, unlike}
 
 -- ---- what an object has at a key
@@ -84,8 +87,11 @@ state_by Untaken Untaken e = refl
 state_by s t e = absurd (omega (arith, ap length e))
 
 module _ (value : Json) where
+  one_name : (key : List ℕ) (n m : ℕ) → HasName key value n → HasName key value m → n ≡ m
+  one_name key n m h i = sym h.are ∙ ap (from_be_bytes w64) (one_array key value 8 h.octets i.octets h.there i.there) ∙ i.are
+
   one_run : (n m : ℕ) → HasRun value n → HasRun value m → n ≡ m
-  one_run n m h i = sym h.are ∙ ap (from_be_bytes w64) (one_array (codes "run") value 8 h.octets i.octets h.there i.there) ∙ i.are
+  one_run = one_name (codes "run")
 
   one_client : (xs ys : List ℕ) → HasClient value xs → HasClient value ys → xs ≡ ys
   one_client xs ys h i = same_some xs ys (sym h.is ∙ ap address_in (one_text (codes "client") value h.text i.text h.there i.there) ∙ i.is)
@@ -209,11 +215,40 @@ one_record_count kind value one another h i = record {
   count = one_number (codes "count") value (2 ^ 64) (2 ^ 64) one.count another.count h.count.there i.count.there;
 }
 
+one_answer_count : (value : Json) (one another : AnswerCount) → IsAnswerCount value one → IsAnswerCount value another → IsSameAnswerCount one another
+one_answer_count value one another h i = record {
+  run = one_run value one.run another.run h.run i.run;
+  time = one_time (codes "time") value one.time.now another.time.now h.time i.time;
+  home = one_text (codes "home") value one.home.now another.home.now h.home i.home;
+  lane = one_number (codes "lane") value (2 ^ 16) (2 ^ 16) one.lane another.lane h.lane i.lane;
+  answer_run = one_name value (codes "answer_run") one.answer_run another.answer_run h.answer_run i.answer_run;
+  answer_lane = one_number (codes "answer_lane") value (2 ^ 16) (2 ^ 16) one.answer_lane another.answer_lane h.answer_lane i.answer_lane;
+  answer_serial = one_number (codes "answer_serial") value (2 ^ 63) (2 ^ 63) one.answer_serial another.answer_serial h.answer_serial i.answer_serial;
+  count = one_number (codes "count") value (2 ^ 64) (2 ^ 64) one.count another.count h.count.there i.count.there;
+}
+
+one_resumed : (value : Json) (one another : Resumed) → IsResumed value one → IsResumed value another → IsSameResumed one another
+one_resumed value one another h i = record {
+  run = one_run value one.run another.run h.run i.run;
+  time = one_time (codes "time") value one.time.now another.time.now h.time i.time;
+  home = one_text (codes "home") value one.home.now another.home.now h.home i.home;
+  lane = one_number (codes "lane") value (2 ^ 16) (2 ^ 16) one.lane another.lane h.lane i.lane;
+  number = one_number (codes "record") value (2 ^ 64) (2 ^ 64) one.number another.number h.record_is i.record_is;
+  first_run = one_name value (codes "first_run") one.first_run another.first_run h.first_run i.first_run;
+  first_lane = one_number (codes "first_lane") value (2 ^ 16) (2 ^ 16) one.first_lane another.first_lane h.first_lane i.first_lane;
+  first_number = one_number (codes "first_record") value (2 ^ 64) (2 ^ 64) one.first_number another.first_number h.first_record i.first_record;
+}
+
+-- with a record and without one
+not_both : (value : Json) (digits : List ℕ) → get (codes "record") value ≡ Some (number digits) → get (codes "record") value ≡ None → ⊥
+not_both value digits h i = absurd cc
+
 kind_by : (s t : HiddenKind) → kind_text s ≡ kind_text t → s ≡ t
 kind_by AnEntry AnEntry e = refl
 kind_by ALeft ALeft e = refl
 kind_by AnUnsent AnUnsent e = refl
 kind_by AnAgain AnAgain e = refl
+kind_by AResumed AResumed e = refl
 kind_by s t e = absurd (omega (arith, ap (λ xs. get_or xs 0 0) e))
 
 kind_if_any : (value : Json) (s t : Option HiddenKind) → MayHaveKind value s → MayHaveKind value t → s ≡ t
@@ -238,6 +273,10 @@ one_line_of value (ends one) (ends another) h i = one_end value one another h i
 one_line_of value (unsends one) (unsends another) h i = one_record_count (codes "unsent") value one another h i
 one_line_of value (repeats one) (repeats another) h i = one_record_count (codes "again") value one another h i
 one_line_of value (hides one) (hides another) h i = one_hidden value one another h i
+one_line_of value (recalls one) (recalls another) h i = one_answer_count value one another h i
+one_line_of value (resumes one) (resumes another) h i = one_resumed value one another h i
+one_line_of value (repeats one) (recalls another) h i = absurd (not_both value h.record_is.digits h.record_is.there i.no_record)
+one_line_of value (recalls one) (repeats another) h i = absurd (not_both value i.record_is.digits i.record_is.there h.no_record)
 one_line_of value one another h i = absurd (omega (arith, unlike value _ _ h.type_is i.type_is))
 
 module _ (octets : List ℕ) where

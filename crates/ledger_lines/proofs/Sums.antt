@@ -22,20 +22,22 @@ use Rattle.json_objects.proofs.Numbers.{AreNumbered, MayBeNumbered, numbered_bot
 use Rattle.ledger_rules.specs.declared.entry.Entry.{Entry}
 use Rattle.ledger_rules.specs.declared.left.Left.{Left}
 use Rattle.ledger_rules.specs.declared.line_request.LineRequest.{LineRequest}
+use Rattle.ledger_rules.specs.declared.record_count.AnswerCount.{AnswerCount}
 use Rattle.ledger_rules.specs.declared.record_count.RecordCount.{RecordCount}
+use Rattle.ledger_rules.specs.declared.resumed.Resumed.{Resumed}
 use Rattle.ledger_lines.specs.declared.begin.Begin.{Begin}
 use Rattle.ledger_lines.specs.declared.begin.FileBefore.{FileBefore}
 use Rattle.ledger_lines.specs.declared.end.End.{End}
 use Rattle.ledger_lines.specs.declared.end.LaneCount.{LaneCount}
 use Rattle.ledger_lines.specs.declared.lane_start.LaneStart.{LaneStart}
 use Rattle.ledger_lines.specs.declared.reading.Line.{Line}
-use Rattle.ledger_lines.specs.declared.reading.Line.TheVariants.{Begin as begins, Entry as enters, Left as leaves, End as ends}
+use Rattle.ledger_lines.specs.declared.reading.Line.TheVariants.{AgainEarlier as recalls, Begin as begins, Entry as enters, Left as leaves, Resumed as resumes, End as ends}
 use Rattle.ledger_lines.specs.declared.record_count.CountKind.{CountKind}
 use Rattle.ledger_lines.specs.declared.record_count.CountKind.TheVariants.{Again, Unsent}
 use Rattle.ledger_lines.specs.Lines.{IsLine, IsLineOf, truth_if}
-use Rattle.ledger_lines.specs.Written.{IsBelowIfAny, IsReadableBegin, IsReadableCount, IsReadableEnd, IsReadableEntry, IsReadableFileIfAny, IsReadableLeft, IsReadableRecordCount, IsReadableRequest, IsReadableStart, IsSum, IsSummedAs, begin_slots, begin_value, count_slots, count_value, counted_as, digits_if_any, end_slots, end_value, entry_slots, entry_value, file_slots, file_value, kind_name, lane_slots, left_slots, left_value, octets_value, packet_slots, record_count_slots, record_count_value, request_slots, start_slots, start_value, state_slots, sum_slot, sum_text, text_if_any, words_slots}
-use Rattle.ledger_lines.proofs.Fine.{fine_begin_summed, fine_end_summed, fine_entry_summed, fine_left_summed, fine_record_count_summed}
-use Rattle.ledger_lines.proofs.Told.{array_there, begin_read, end_read, entry_read, left_read, record_count_read, summed}
+use Rattle.ledger_lines.specs.Written.{IsBelowIfAny, IsReadableAnswerCount, IsReadableBegin, IsReadableCount, IsReadableEnd, IsReadableEntry, IsReadableFileIfAny, IsReadableLeft, IsReadableRecordCount, IsReadableRequest, IsReadableResumed, IsReadableStart, IsSum, IsSummedAs, answer_count_slots, answer_count_value, begin_slots, begin_value, count_slots, count_value, counted_as, digits_if_any, end_slots, end_value, entry_slots, entry_value, file_slots, file_value, kind_name, lane_slots, left_slots, left_value, octets_value, packet_slots, record_count_slots, record_count_value, request_slots, resumed_slots, resumed_value, start_slots, start_value, state_slots, sum_slot, sum_text, text_if_any, words_slots}
+use Rattle.ledger_lines.proofs.Fine.{fine_answer_count_summed, fine_begin_summed, fine_end_summed, fine_entry_summed, fine_left_summed, fine_record_count_summed, fine_resumed_summed}
+use Rattle.ledger_lines.proofs.Told.{answer_count_read, array_there, begin_read, end_read, entry_read, left_read, record_count_read, resumed_read, summed}
 use Rattle.ledger_lines.proofs.Members.{found, get_found}
 
 -- ---- digits need no escape
@@ -214,6 +216,19 @@ left_numbered left h =
 count_line_numbered : (kind : CountKind) (its : RecordCount) → IsReadableRecordCount its → AreNumbered (record_count_slots kind its)
 count_line_numbered kind its h = (tt, (tt, (tt, (tt, (number_is its.lane (omega (arith, h.lane)), (number_is its.number h.record_is, (number_is its.count h.count, tt)))))))
 
+answer_numbered : (its : AnswerCount) → IsReadableAnswerCount its → AreNumbered (answer_count_slots its)
+answer_numbered its h =
+    let lane = number_is its.lane (omega (arith, h.lane)) in
+    let answer_lane = number_is its.answer_lane (omega (arith, h.answer_lane)) in
+    let answer_serial = number_is its.answer_serial (omega (arith, h.answer_serial)) in
+    (tt, (tt, (tt, (tt, (lane, (tt, (answer_lane, (answer_serial, (number_is its.count h.count, tt)))))))))
+
+resumed_numbered : (its : Resumed) → IsReadableResumed its → AreNumbered (resumed_slots its)
+resumed_numbered its h =
+    let lane = number_is its.lane (omega (arith, h.lane)) in
+    let first_lane = number_is its.first_lane (omega (arith, h.first_lane)) in
+    (tt, (tt, (tt, (tt, (lane, (number_is its.number h.record_is, (tt, (first_lane, (number_is its.first_number h.first_record, tt)))))))))
+
 -- ---- each kind of line
 
 -- all slots but the first
@@ -233,6 +248,12 @@ module _ (before all sum : List ℕ) where
 
   pub end_line : (end : End) (h : HasFrontBehind before all (end_value end)) → IsReadableEnd end → IsSum sum → IsSummedAs h.front sum (ends end)
   end_line end h its is = summed_line (codes "type") (string (codes "end")) (behind (end_slots end)) sum is before all h (ends end) refl (end_numbered end its) (fine_end_summed end sum) (end_read end sum its) refl
+
+  pub answer_count_line : (its : AnswerCount) (h : HasFrontBehind before all (answer_count_value its)) → IsReadableAnswerCount its → IsSum sum → IsSummedAs h.front sum (recalls its)
+  answer_count_line its h it is = summed_line (codes "type") (string (codes "again")) (behind (answer_count_slots its)) sum is before all h (recalls its) refl (answer_numbered its it) (fine_answer_count_summed its sum) (answer_count_read its sum it) refl
+
+  pub resumed_line : (its : Resumed) (h : HasFrontBehind before all (resumed_value its)) → IsReadableResumed its → IsSum sum → IsSummedAs h.front sum (resumes its)
+  resumed_line its h it is = summed_line (codes "type") (string (codes "resumed")) (behind (resumed_slots its)) sum is before all h (resumes its) refl (resumed_numbered its it) (fine_resumed_summed its sum) (resumed_read its sum it) refl
 
   pub record_count_line : (kind : CountKind) (its : RecordCount) (h : HasFrontBehind before all (record_count_value kind its)) → IsReadableRecordCount its → IsSum sum → IsSummedAs h.front sum (counted_as kind its)
   record_count_line Unsent its h it is = summed_line (codes "type") (string (kind_name Unsent)) (behind (record_count_slots Unsent its)) sum is before all h (counted_as Unsent its) refl (count_line_numbered Unsent its it) (fine_record_count_summed Unsent its sum) (record_count_read Unsent its sum it) refl

@@ -14,21 +14,23 @@ use Rattle.json.specs.Find.{get}
 use Rattle.hex.specs.Hex.{IsBytes, encode_lower, lower_digits}
 use Rattle.hex.proofs.HexLemmas.{decode_of-encode_lower, length-encode_with}
 use Rattle.json_objects.specs.Written.{IsValue}
-use Rattle.ledger_lines.specs.Lines.{AreEach, HasOnly, HasNumber, MayHaveNumber, HasOctets, HasArray, HasRun, HasClient, IsAbout, IsBegin, IsEnd, IsEntry, IsFileBefore, IsLaneCount, IsLaneStart, IsLeft, IsLine, IsRecordCount, MayHaveFile, MayHaveSum, MayHaveTime, MayHaveWords}
+use Rattle.ledger_lines.specs.Lines.{AreEach, HasOnly, HasNumber, MayHaveNumber, HasOctets, HasArray, HasName, HasClient, IsAbout, IsAnswerCount, IsBegin, IsEnd, IsEntry, IsFileBefore, IsLaneCount, IsLaneStart, IsLeft, IsLine, IsRecordCount, IsResumed, MayHaveFile, MayHaveSum, MayHaveTime, MayHaveWords}
 use Rattle.rad_config.proofs.Addresses.{address_from_text}
 use Rattle.rad_realms.specs.Address.{IsAddress}
 use Rattle.rad_realms.specs.Printed.{address_text}
 use Rattle.ledger_rules.specs.declared.entry.Entry.{Entry}
 use Rattle.ledger_rules.specs.declared.left.Left.{Left}
 use Rattle.ledger_rules.specs.declared.line_request.LineRequest.{LineRequest}
+use Rattle.ledger_rules.specs.declared.record_count.AnswerCount.{AnswerCount}
 use Rattle.ledger_rules.specs.declared.record_count.RecordCount.{RecordCount}
+use Rattle.ledger_rules.specs.declared.resumed.Resumed.{Resumed}
 use Rattle.ledger_lines.specs.declared.begin.Begin.{Begin}
 use Rattle.ledger_lines.specs.declared.begin.FileBefore.{FileBefore}
 use Rattle.ledger_lines.specs.declared.lane_start.LaneStart.{LaneStart}
 use Rattle.json_objects.specs.Written.{items_of, number_value, object_of, present}
 use Rattle.json_objects.proofs.Fine.{keys_all}
 use Rattle.json.specs.Strict.{keys}
-use Rattle.ledger_lines.specs.Written.{AreBytesIfAny, IsBelowIfAny, IsReadableBegin, IsReadableCount, IsReadableEnd, IsReadableEntry, IsReadableFile, IsReadableFileIfAny, IsReadableLeft, IsReadableRecordCount, IsReadableRequest, IsReadableStart, IsSumIfAny, IsTimeIfAny, begin_slots, count_slots, count_value, digits_if_any, end_slots, entry_slots, file_slots, file_value, kind_name, lane_slots, left_slots, octets_value, packet_slots, record_count_slots, request_slots, start_slots, start_value, state_slots, sum_slot, text_if_any}
+use Rattle.ledger_lines.specs.Written.{AreBytesIfAny, IsBelowIfAny, IsReadableAnswerCount, IsReadableBegin, IsReadableCount, IsReadableEnd, IsReadableEntry, IsReadableFile, IsReadableFileIfAny, IsReadableLeft, IsReadableRecordCount, IsReadableRequest, IsReadableResumed, IsReadableStart, IsSumIfAny, IsTimeIfAny, answer_count_slots, begin_slots, count_slots, count_value, digits_if_any, end_slots, entry_slots, file_slots, file_value, kind_name, lane_slots, left_slots, octets_value, packet_slots, record_count_slots, request_slots, resumed_slots, start_slots, start_value, state_slots, sum_slot, text_if_any}
 use Rattle.ledger_lines.specs.declared.end.End.{End}
 use Rattle.ledger_lines.specs.declared.end.LaneCount.{LaneCount}
 use Rattle.ledger_lines.specs.declared.reading.Line.TheVariants.{Begin as begins, Entry as enters, Left as leaves, End as ends}
@@ -104,10 +106,10 @@ run_octets run =
       ),
     )
 
-run_there : (value : Json) (run : ℕ) → get (codes "run") value ≡ Some (octets_value (to_be_bytes w64 run)) → run < 2 ^ 64 → HasRun value run
-run_there value run e small = record {
+name_there : (key : List ℕ) (value : Json) (run : ℕ) → get key value ≡ Some (octets_value (to_be_bytes w64 run)) → run < 2 ^ 64 → HasName key value run
+name_there key value run e small = record {
   octets = to_be_bytes w64 run;
-  there = array_there (codes "run") 8 value (to_be_bytes w64 run) e refl (run_octets run);
+  there = array_there key 8 value (to_be_bytes w64 run) e refl (run_octets run);
   are = from_be_bytes-to_be_bytes_8 run small;
 }
 
@@ -140,7 +142,7 @@ end_read end sum h =
     record {
       no_other = only_names slots;
       type_is = at (codes "type");
-      run = run_there (object_of slots) end.run (at (codes "run")) h.run;
+      run = name_there (codes "run") (object_of slots) end.run (at (codes "run")) h.run;
       time = record { there = at (codes "time"); is = h.time };
       hidden = number_if_there (codes "hidden") (2 ^ 32) (object_of slots) end.hidden (at (codes "hidden")) (omega arith) h.hidden;
       lanes = record {
@@ -173,7 +175,7 @@ module _ (value : Json) (kind : List ℕ) (about : LineRequest) (rest : List (Li
     (at : (key : List ℕ) → bytes_eq (codes "serial") key ≡ false → get key value ≡ found key (lane_slots kind about ++ (request_slots about ++ rest))) where
   about_there : IsReadableRequest about → IsAbout value about
   about_there h = record {
-    run = run_there value about.run (at (codes "run") refl) h.run;
+    run = name_there (codes "run") value about.run (at (codes "run") refl) h.run;
     time = record { there = at (codes "time") refl; is = h.time };
     home = at (codes "home") refl;
     lane = number_there (codes "lane") (2 ^ 16) value about.lane (at (codes "lane") refl) (omega (arith, h.lane)) h.lane;
@@ -234,12 +236,51 @@ record_count_read kind its sum h =
     record {
       no_other = only_names slots;
       type_is = at (codes "type");
-      run = run_there value its.run (at (codes "run")) h.run;
+      run = name_there (codes "run") value its.run (at (codes "run")) h.run;
       time = record { there = at (codes "time"); is = h.time };
       home = at (codes "home");
       lane = number_there (codes "lane") (2 ^ 16) value its.lane (at (codes "lane")) (omega (arith, h.lane)) h.lane;
       record_is = number_there (codes "record") (2 ^ 64) value its.number (at (codes "record")) h.record_is h.record_is;
       count = record { there = number_there (codes "count") (2 ^ 64) value its.count (at (codes "count")) h.count h.count; some = h.some };
+    }
+
+pub answer_count_read : (its : AnswerCount) (sum : List ℕ) → IsReadableAnswerCount its → IsAnswerCount (object_of (summed (answer_count_slots its) sum)) its
+answer_count_read its sum h =
+    let slots = summed (answer_count_slots its) sum in
+    let at = λ (key : List ℕ). get_found key slots refl in
+    let value = object_of slots in
+    record {
+      no_other = only_names slots;
+      no_record = at (codes "record");
+      type_is = at (codes "type");
+      run = name_there (codes "run") value its.run (at (codes "run")) h.run;
+      time = record { there = at (codes "time"); is = h.time };
+      home = at (codes "home");
+      lane = number_there (codes "lane") (2 ^ 16) value its.lane (at (codes "lane")) (omega (arith, h.lane)) h.lane;
+      answer_run = name_there (codes "answer_run") value its.answer_run (at (codes "answer_run")) h.answer_run;
+      answer_lane = number_there (codes "answer_lane") (2 ^ 16) value its.answer_lane (at (codes "answer_lane")) (omega (arith, h.answer_lane)) h.answer_lane;
+      answer_serial = number_there (codes "answer_serial") (2 ^ 63) value its.answer_serial (at (codes "answer_serial")) (omega (arith, h.answer_serial)) h.answer_serial;
+      count = record { there = number_there (codes "count") (2 ^ 64) value its.count (at (codes "count")) h.count h.count; some = h.some };
+    }
+
+-- ---- a line of a request that was taken over
+
+pub resumed_read : (its : Resumed) (sum : List ℕ) → IsReadableResumed its → IsResumed (object_of (summed (resumed_slots its) sum)) its
+resumed_read its sum h =
+    let slots = summed (resumed_slots its) sum in
+    let at = λ (key : List ℕ). get_found key slots refl in
+    let value = object_of slots in
+    record {
+      no_other = only_names slots;
+      type_is = at (codes "type");
+      run = name_there (codes "run") value its.run (at (codes "run")) h.run;
+      time = record { there = at (codes "time"); is = h.time };
+      home = at (codes "home");
+      lane = number_there (codes "lane") (2 ^ 16) value its.lane (at (codes "lane")) (omega (arith, h.lane)) h.lane;
+      record_is = number_there (codes "record") (2 ^ 64) value its.number (at (codes "record")) h.record_is h.record_is;
+      first_run = name_there (codes "first_run") value its.first_run (at (codes "first_run")) h.first_run;
+      first_lane = number_there (codes "first_lane") (2 ^ 16) value its.first_lane (at (codes "first_lane")) (omega (arith, h.first_lane)) h.first_lane;
+      first_record = number_there (codes "first_record") (2 ^ 64) value its.first_number (at (codes "first_record")) h.first_record h.first_record;
     }
 
 -- ---- a line that names a run
@@ -280,7 +321,7 @@ begin_read begin sum h =
     record {
       no_other = only_names slots;
       type_is = at (codes "type");
-      run = run_there (object_of slots) begin.run (at (codes "run")) h.run;
+      run = name_there (codes "run") (object_of slots) begin.run (at (codes "run")) h.run;
       time = record { there = at (codes "time"); is = h.time };
       version = at (codes "version");
       file = number_there (codes "file") (2 ^ 64) (object_of slots) begin.file (at (codes "file")) h.file h.file;

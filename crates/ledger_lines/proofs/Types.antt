@@ -1,19 +1,22 @@
 -- Which line a value is, by its type; and which line octets are.
-use Rattle.std.proofs.Common.{◌≡◌, ◌≢◌, ℕ, ◌<◌, ◌≤◌, List, length, codes, Option, sym, ◌∙◌, subst, arith}
-use Rattle.json.specs.Json.{Json}
+use Rattle.std.proofs.Common.{◌≡◌, ◌≢◌, ℕ, ◌<◌, ◌≤◌, List, length, codes, Option, Some, None, sym, ◌∙◌, subst, arith}
+use Rattle.json.specs.Find.{get}
+use Rattle.json.specs.Json.{Json, number}
 use Rattle.json_objects.specs.Written.{IsValue}
 use Rattle.ledger_rules.specs.declared.entry.Entry.{Entry}
 use Rattle.ledger_rules.specs.declared.left.Left.{Left}
 use Rattle.ledger_lines.specs.declared.begin.Begin.{Begin}
 use Rattle.ledger_lines.specs.declared.end.End.{End}
 use Rattle.ledger_lines.specs.declared.hidden.Hidden.{Hidden}
-use Rattle.ledger_lines.specs.Lines.{Denies, HasText, IsBegin, IsEnd, IsEntry, IsHidden, IsLeft, IsLine, IsLineOf, IsRecordCount, MayHaveSum}
+use Rattle.ledger_lines.specs.Lines.{Denies, HasText, IsAnswerCount, IsBegin, IsEnd, IsEntry, IsHidden, IsLeft, IsLine, IsLineOf, IsRecordCount, IsResumed, Lacks, MayHaveSum}
 use Rattle.ledger_lines.specs.declared.faults.LineFault.{LineFault}
 use Rattle.ledger_lines.specs.declared.reading.Line.{Line}
 use Rattle.ledger_lines.specs.declared.reading.SummedLine.{SummedLine}
+use Rattle.ledger_rules.specs.declared.record_count.AnswerCount.{AnswerCount}
 use Rattle.ledger_rules.specs.declared.record_count.RecordCount.{RecordCount}
-use Rattle.ledger_lines.specs.declared.reading.Line.TheVariants.{Begin as begins, Entry as enters, Left as leaves, Unsent as unsends, Again as repeats, End as ends, Hidden as hides}
-use Rattle.ledger_lines.proofs.Lines.{denied}
+use Rattle.ledger_rules.specs.declared.resumed.Resumed.{Resumed}
+use Rattle.ledger_lines.specs.declared.reading.Line.TheVariants.{Begin as begins, Entry as enters, Left as leaves, Unsent as unsends, Again as repeats, AgainEarlier as recalls, Resumed as resumes, End as ends, Hidden as hides}
+use Rattle.ledger_lines.proofs.Lines.{denied, differ}
 use Rattle.ledger_lines.proofs.Found.{same_some, one_text, unlike, TextThere}
 use Rattle.ledger_lines.proofs.Parts.{ValueThere}
 
@@ -27,6 +30,8 @@ module _ (value : Json) where
   type_of (leaves l, p) = (codes "left", p.type_is)
   type_of (unsends c, p) = (codes "unsent", p.type_is)
   type_of (repeats c, p) = (codes "again", p.type_is)
+  type_of (recalls c, p) = (codes "again", p.type_is)
+  type_of (resumes r, p) = (codes "resumed", p.type_is)
   type_of (ends e, p) = (codes "end", p.type_is)
   type_of (hides h, p) = (codes "hidden", p.type_is)
 
@@ -54,22 +59,34 @@ module _ (value : Json) where
   unsent_in t (unsends x, p) = (x, p)
   unsent_in t (other, p) = absurd (omega (arith, unlike value _ _ t p.type_is))
 
-  pub again_in : HasText (codes "type") value (codes "again") → LineThere → (x : RecordCount) × IsRecordCount (codes "again") value x
-  again_in t (repeats x, p) = (x, p)
-  again_in t (other, p) = absurd (omega (arith, unlike value _ _ t p.type_is))
+  pub again_in : HasText (codes "type") value (codes "again") → ¬ Lacks (codes "record") value → LineThere → (x : RecordCount) × IsRecordCount (codes "again") value x
+  again_in t r (repeats x, p) = (x, p)
+  again_in t r (recalls x, p) = absurd (r p.no_record)
+  again_in t r (other, p) = absurd (omega (arith, unlike value _ _ t p.type_is))
+
+  pub earlier_in : HasText (codes "type") value (codes "again") → Lacks (codes "record") value → LineThere → (x : AnswerCount) × IsAnswerCount value x
+  earlier_in t r (recalls x, p) = (x, p)
+  earlier_in t r (repeats x, p) = absurd (differ (get (codes "record") value) (number p.record_is.digits) (sym r) p.record_is.there)
+  earlier_in t r (other, p) = absurd (omega (arith, unlike value _ _ t p.type_is))
+
+  pub resumed_in : HasText (codes "type") value (codes "resumed") → LineThere → (x : Resumed) × IsResumed value x
+  resumed_in t (resumes x, p) = (x, p)
+  resumed_in t (other, p) = absurd (omega (arith, unlike value _ _ t p.type_is))
 
   module _ (text : List ℕ) (there : HasText (codes "type") value text) where
     one_type : (other : List ℕ) → HasText (codes "type") value other → text ≡ other
     one_type other also = one_text (codes "type") value text other there also
 
-    pub other_denied : text ≢ codes "entry" → text ≢ codes "left" → text ≢ codes "begin" → text ≢ codes "end" → text ≢ codes "hidden" → text ≢ codes "unsent" → text ≢ codes "again" → ¬ LineThere
-    other_denied n l b e h u a (begins x, p) = b (one_type (codes "begin") p.type_is)
-    other_denied n l b e h u a (enters x, p) = n (one_type (codes "entry") p.type_is)
-    other_denied n l b e h u a (leaves x, p) = l (one_type (codes "left") p.type_is)
-    other_denied n l b e h u a (unsends c, p) = u (one_type (codes "unsent") p.type_is)
-    other_denied n l b e h u a (repeats c, p) = a (one_type (codes "again") p.type_is)
-    other_denied n l b e h u a (ends x, p) = e (one_type (codes "end") p.type_is)
-    other_denied n l b e h u a (hides x, p) = h (one_type (codes "hidden") p.type_is)
+    pub other_denied : text ≢ codes "entry" → text ≢ codes "left" → text ≢ codes "begin" → text ≢ codes "end" → text ≢ codes "hidden" → text ≢ codes "unsent" → text ≢ codes "again" → text ≢ codes "resumed" → ¬ LineThere
+    other_denied n l b e h u a r (begins x, p) = b (one_type (codes "begin") p.type_is)
+    other_denied n l b e h u a r (enters x, p) = n (one_type (codes "entry") p.type_is)
+    other_denied n l b e h u a r (leaves x, p) = l (one_type (codes "left") p.type_is)
+    other_denied n l b e h u a r (unsends c, p) = u (one_type (codes "unsent") p.type_is)
+    other_denied n l b e h u a r (repeats c, p) = a (one_type (codes "again") p.type_is)
+    other_denied n l b e h u a r (recalls c, p) = a (one_type (codes "again") p.type_is)
+    other_denied n l b e h u a r (resumes x, p) = r (one_type (codes "resumed") p.type_is)
+    other_denied n l b e h u a r (ends x, p) = e (one_type (codes "end") p.type_is)
+    other_denied n l b e h u a r (hides x, p) = h (one_type (codes "hidden") p.type_is)
 
 module _ (octets : List ℕ) (fault : LineFault) where
   abbrev pub IsLineThere : Type 0

@@ -15,21 +15,23 @@ use Rattle.ledger_rules.specs.declared.left.Left.{Left}
 use Rattle.rad_lane.specs.declared.leftover.LeftState.{LeftState}
 use Rattle.rad_lane.specs.declared.leftover.LeftState.TheVariants.{Queued, Outstanding, Untaken}
 use Rattle.ledger_rules.specs.declared.line_request.LineRequest.{LineRequest}
+use Rattle.ledger_rules.specs.declared.record_count.AnswerCount.{AnswerCount}
 use Rattle.ledger_rules.specs.declared.record_count.RecordCount.{RecordCount}
+use Rattle.ledger_rules.specs.declared.resumed.Resumed.{Resumed}
 use Rattle.ledger_lines.specs.Moments.{IsMoment}
 use Rattle.ledger_lines.specs.declared.begin.Begin.{Begin}
 use Rattle.ledger_lines.specs.declared.end.End.{End}
 use Rattle.ledger_lines.specs.declared.begin.FileBefore.{FileBefore}
 use Rattle.ledger_lines.specs.declared.hidden.Hidden.{Hidden}
 use Rattle.ledger_lines.specs.declared.hidden.HiddenKind.{HiddenKind}
-use Rattle.ledger_lines.specs.declared.hidden.HiddenKind.TheVariants.{Entry as AnEntry, Left as ALeft, Unsent as AnUnsent, Again as AnAgain}
+use Rattle.ledger_lines.specs.declared.hidden.HiddenKind.TheVariants.{Entry as AnEntry, Left as ALeft, Unsent as AnUnsent, Again as AnAgain, Resumed as AResumed}
 use Rattle.ledger_lines.specs.declared.lane_start.LaneStart.{LaneStart}
 use Rattle.ledger_lines.specs.declared.end.LaneCount.{LaneCount}
 use Rattle.ledger_lines.specs.declared.faults.LineFault.{LineFault}
 use Rattle.ledger_lines.specs.declared.faults.LineFault.TheVariants.{NotALine, OutOfMemory}
 use Rattle.ledger_lines.specs.declared.reading.Line.{Line}
 use Rattle.ledger_lines.specs.declared.reading.SummedLine.{SummedLine}
-use Rattle.ledger_lines.specs.declared.reading.Line.TheVariants.{Begin as begins, Entry as enters, Left as leaves, Unsent as unsends, Again as repeats, End as ends, Hidden as hides}
+use Rattle.ledger_lines.specs.declared.reading.Line.TheVariants.{Begin as begins, Entry as enters, Left as leaves, Unsent as unsends, Again as repeats, AgainEarlier as recalls, Resumed as resumes, End as ends, Hidden as hides}
 
 -- A fault tells that nothing is there, where it is not want of memory.
 abbrev pub Denies : LineFault → Type 0 → Type 0
@@ -106,11 +108,14 @@ abbrev pub MayHaveSum : List ℕ → Json → Option (List ℕ) → Type 0
 MayHaveSum key value None = Lacks key value
 MayHaveSum key value (Some sum) = HasArray key 32 value sum
 
--- A run's name: a number of eight octets.
-pub record HasRun (value : Json) (run : ℕ) : Type 0 where
+-- A run's name: a number of eight octets; and that of the line's own run.
+pub record HasName (key : List ℕ) (value : Json) (run : ℕ) : Type 0 where
   pub octets : List ℕ
-  pub there : HasArray (codes "run") 8 value octets
+  pub there : HasArray key 8 value octets
   pub are : from_be_bytes w64 octets ≡ run
+
+abbrev pub HasRun : Json → ℕ → Type 0
+HasRun value run = HasName (codes "run") value run
 
 pub record HasTime (key : List ℕ) (value : Json) (time : List ℕ) : Type 0 where
   pub there : HasText key value time
@@ -284,12 +289,50 @@ pub record IsRecordCount (kind : List ℕ) (value : Json) (its : RecordCount) : 
   pub record_is : HasNumber (codes "record") (2 ^ 64) value its.number
   pub count : HasSome value its.count
 
+-- A line that counts how often the response that an earlier run gave was sent again. It names no record: the response's serial there does.
+abbrev pub keys_of_answer_count : List (List ℕ)
+keys_of_answer_count =
+    codes "type" ∷ codes "run" ∷ codes "time" ∷ codes "home" ∷ codes "lane" ∷ codes "answer_run" ∷ codes "answer_lane" ∷ codes "answer_serial"
+    ∷ codes "count" ∷ codes "sum" ∷ []
+
+pub record IsAnswerCount (value : Json) (its : AnswerCount) : Type 0 where
+  pub no_other : HasOnly keys_of_answer_count value
+  pub no_record : Lacks (codes "record") value
+  pub type_is : HasText (codes "type") value (codes "again")
+  pub run : HasRun value its.run
+  pub time : HasTime (codes "time") value its.time.now
+  pub home : HasText (codes "home") value its.home.now
+  pub lane : HasNumber (codes "lane") (2 ^ 16) value its.lane
+  pub answer_run : HasName (codes "answer_run") value its.answer_run
+  pub answer_lane : HasNumber (codes "answer_lane") (2 ^ 16) value its.answer_lane
+  pub answer_serial : HasNumber (codes "answer_serial") (2 ^ 63) value its.answer_serial
+  pub count : HasSome value its.count
+
+-- A line of a request that an earlier run left and a lane took over.
+abbrev pub keys_of_resumed : List (List ℕ)
+keys_of_resumed =
+    codes "type" ∷ codes "run" ∷ codes "time" ∷ codes "home" ∷ codes "lane" ∷ codes "record" ∷ codes "first_run" ∷ codes "first_lane"
+    ∷ codes "first_record" ∷ codes "sum" ∷ []
+
+pub record IsResumed (value : Json) (its : Resumed) : Type 0 where
+  pub no_other : HasOnly keys_of_resumed value
+  pub type_is : HasText (codes "type") value (codes "resumed")
+  pub run : HasRun value its.run
+  pub time : HasTime (codes "time") value its.time.now
+  pub home : HasText (codes "home") value its.home.now
+  pub lane : HasNumber (codes "lane") (2 ^ 16) value its.lane
+  pub record_is : HasNumber (codes "record") (2 ^ 64) value its.number
+  pub first_run : HasName (codes "first_run") value its.first_run
+  pub first_lane : HasNumber (codes "first_lane") (2 ^ 16) value its.first_lane
+  pub first_record : HasNumber (codes "first_record") (2 ^ 64) value its.first_number
+
 -- The kind of a line that is left out, as the line in its place has it.
 abbrev pub kind_text : HiddenKind → List ℕ
 kind_text AnEntry = codes "entry"
 kind_text ALeft = codes "left"
 kind_text AnUnsent = codes "unsent"
 kind_text AnAgain = codes "again"
+kind_text AResumed = codes "resumed"
 
 abbrev pub HasKind : Json → HiddenKind → Type 0
 HasKind value kind = HasText (codes "kind") value (kind_text kind)
@@ -312,6 +355,8 @@ IsLineOf value (enters entry) = IsEntry value entry
 IsLineOf value (leaves left) = IsLeft value left
 IsLineOf value (unsends its) = IsRecordCount (codes "unsent") value its
 IsLineOf value (repeats its) = IsRecordCount (codes "again") value its
+IsLineOf value (recalls its) = IsAnswerCount value its
+IsLineOf value (resumes its) = IsResumed value its
 IsLineOf value (ends end) = IsEnd value end
 IsLineOf value (hides hidden) = IsHidden value hidden
 

@@ -5,7 +5,9 @@ use Rattle.std.specs.List.{AllZip}
 use Rattle.ledger_rules.specs.declared.entry.Entry.{Entry}
 use Rattle.ledger_rules.specs.declared.left.Left.{Left}
 use Rattle.ledger_rules.specs.declared.line_request.LineRequest.{LineRequest}
+use Rattle.ledger_rules.specs.declared.record_count.AnswerCount.{AnswerCount}
 use Rattle.ledger_rules.specs.declared.record_count.RecordCount.{RecordCount}
+use Rattle.ledger_rules.specs.declared.resumed.Resumed.{Resumed}
 use Rattle.ledger_lines.specs.Lines.{Denies, IsLine}
 use Rattle.ledger_lines.specs.declared.begin.Begin.{Begin}
 use Rattle.ledger_lines.specs.declared.end.End.{End}
@@ -15,7 +17,7 @@ use Rattle.ledger_lines.specs.declared.faults.LineFault.{LineFault}
 use Rattle.ledger_lines.specs.declared.faults.LineFault.TheVariants.{OutOfMemory}
 use Rattle.ledger_lines.specs.declared.reading.Line.{Line}
 use Rattle.ledger_lines.specs.declared.reading.SummedLine.{SummedLine}
-use Rattle.ledger_lines.specs.declared.reading.Line.TheVariants.{Begin as begins, Entry as enters, Left as leaves, Unsent as unsends, Again as repeats, End as ends, Hidden as hides}
+use Rattle.ledger_lines.specs.declared.reading.Line.TheVariants.{Begin as begins, Entry as enters, Left as leaves, Unsent as unsends, Again as repeats, AgainEarlier as recalls, Resumed as resumes, End as ends, Hidden as hides}
 
 pub record IsSameRequest (one another : LineRequest) : Type 0 where
   pub run : one.run ≡ another.run
@@ -87,6 +89,26 @@ pub record IsSameCount (one another : RecordCount) : Type 0 where
   pub number : one.number ≡ another.number
   pub count : one.count ≡ another.count
 
+pub record IsSameAnswerCount (one another : AnswerCount) : Type 0 where
+  pub run : one.run ≡ another.run
+  pub time : one.time.now ≡ another.time.now
+  pub home : one.home.now ≡ another.home.now
+  pub lane : one.lane ≡ another.lane
+  pub answer_run : one.answer_run ≡ another.answer_run
+  pub answer_lane : one.answer_lane ≡ another.answer_lane
+  pub answer_serial : one.answer_serial ≡ another.answer_serial
+  pub count : one.count ≡ another.count
+
+pub record IsSameResumed (one another : Resumed) : Type 0 where
+  pub run : one.run ≡ another.run
+  pub time : one.time.now ≡ another.time.now
+  pub home : one.home.now ≡ another.home.now
+  pub lane : one.lane ≡ another.lane
+  pub number : one.number ≡ another.number
+  pub first_run : one.first_run ≡ another.first_run
+  pub first_lane : one.first_lane ≡ another.first_lane
+  pub first_number : one.first_number ≡ another.first_number
+
 -- Lines of two kinds never say the same.
 abbrev pub IsSameLine : Line → Line → Type 0
 IsSameLine (begins one) (begins another) = IsSameBegin one another
@@ -94,6 +116,8 @@ IsSameLine (enters one) (enters another) = IsSameEntry one another
 IsSameLine (leaves one) (leaves another) = IsSameLeft one another
 IsSameLine (unsends one) (unsends another) = IsSameCount one another
 IsSameLine (repeats one) (repeats another) = IsSameCount one another
+IsSameLine (recalls one) (recalls another) = IsSameAnswerCount one another
+IsSameLine (resumes one) (resumes another) = IsSameResumed one another
 IsSameLine (ends one) (ends another) = IsSameEnd one another
 IsSameLine (hides one) (hides another) = one ≡ another
 IsSameLine one another = ⊥

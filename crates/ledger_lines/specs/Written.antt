@@ -10,7 +10,9 @@ use Rattle.rad_realms.specs.Printed.{address_text}
 use Rattle.ledger_rules.specs.declared.entry.Entry.{Entry}
 use Rattle.ledger_rules.specs.declared.left.Left.{Left}
 use Rattle.ledger_rules.specs.declared.line_request.LineRequest.{LineRequest}
+use Rattle.ledger_rules.specs.declared.record_count.AnswerCount.{AnswerCount}
 use Rattle.ledger_rules.specs.declared.record_count.RecordCount.{RecordCount}
+use Rattle.ledger_rules.specs.declared.resumed.Resumed.{Resumed}
 use Rattle.json_objects.specs.Written.{items_of, number_value, object_of}
 pub use Rattle.json_objects.specs.Written.{HasBodyBehind, HasFrontBehind}
 use Rattle.ledger_lines.specs.Lines.{IsLine, IsTime, state_text, truth_if}
@@ -143,6 +145,28 @@ abbrev pub counted_as : CountKind → RecordCount → Line
 counted_as Unsent its = unsends its
 counted_as Again its = repeats its
 
+-- A line that counts how often the response of an earlier run was sent again.
+abbrev pub answer_count_slots : AnswerCount → List (List ℕ × Option Json)
+answer_count_slots its =
+    first_slots (codes "again") its.run its.time.now
+    ++ (codes "home", Some (string its.home.now)) ∷ (codes "lane", Some (number_value its.lane))
+    ∷ (codes "answer_run", Some (octets_value (to_be_bytes w64 its.answer_run))) ∷ (codes "answer_lane", Some (number_value its.answer_lane))
+    ∷ (codes "answer_serial", Some (number_value its.answer_serial)) ∷ (codes "count", Some (number_value its.count)) ∷ []
+
+abbrev pub answer_count_value : AnswerCount → Json
+answer_count_value its = object_of (answer_count_slots its)
+
+-- A line of a request that was taken over.
+abbrev pub resumed_slots : Resumed → List (List ℕ × Option Json)
+resumed_slots its =
+    first_slots (codes "resumed") its.run its.time.now
+    ++ (codes "home", Some (string its.home.now)) ∷ (codes "lane", Some (number_value its.lane)) ∷ (codes "record", Some (number_value its.number))
+    ∷ (codes "first_run", Some (octets_value (to_be_bytes w64 its.first_run))) ∷ (codes "first_lane", Some (number_value its.first_lane))
+    ∷ (codes "first_record", Some (number_value its.first_number)) ∷ []
+
+abbrev pub resumed_value : Resumed → Json
+resumed_value its = object_of (resumed_slots its)
+
 -- What a reader asks of a number that may be there, of a sum, of a lane that is counted, and of a line that ends a run. The types give the
 -- bounds.
 abbrev pub IsBelowIfAny : ℕ → Option ℕ → Type 0
@@ -236,6 +260,26 @@ pub record IsReadableRecordCount (its : RecordCount) : Type 0 where
   pub record_is : its.number < 2 ^ 64
   pub some : 0 < its.count
   pub count : its.count < 2 ^ 64
+
+pub record IsReadableAnswerCount (its : AnswerCount) : Type 0 where
+  pub run : its.run < 2 ^ 64
+  pub time : IsTime its.time.now
+  pub lane : its.lane < 2 ^ 16
+  pub answer_run : its.answer_run < 2 ^ 64
+  pub answer_lane : its.answer_lane < 2 ^ 16
+  pub answer_serial : its.answer_serial < 2 ^ 63
+  pub some : 0 < its.count
+  pub count : its.count < 2 ^ 64
+
+-- The same of a line of a request that was taken over.
+pub record IsReadableResumed (its : Resumed) : Type 0 where
+  pub run : its.run < 2 ^ 64
+  pub time : IsTime its.time.now
+  pub lane : its.lane < 2 ^ 16
+  pub record_is : its.number < 2 ^ 64
+  pub first_run : its.first_run < 2 ^ 64
+  pub first_lane : its.first_lane < 2 ^ 16
+  pub first_record : its.first_number < 2 ^ 64
 
 -- The tail that a line gets: its sum, the last of its keys, and its last brace.
 abbrev pub sum_slot : List ℕ → List ℕ × Option Json

@@ -17,6 +17,7 @@ pub enum HiddenKind {
     Left,
     Unsent,
     Again,
+    Resumed,
 }
 
 /// A line that is left out: its sum stands in its place.
@@ -63,6 +64,7 @@ fn kind_at(value: &Value<'_>) -> Result<HiddenKind, LineFault>
         "left" => Ok(HiddenKind::Left),
         "unsent" => Ok(HiddenKind::Unsent),
         "again" => Ok(HiddenKind::Again),
+        "resumed" => Ok(HiddenKind::Resumed),
         _ => Err(LineFault::NotALine),
     }
 }

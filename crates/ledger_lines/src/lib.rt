@@ -1,8 +1,9 @@
-//! The lines of a ledger: a line for each response that the front took, a line for each request that was left, lines that name a
-//! run and end one, lines that count what became of a response, and lines that stand for others that are left out.
+//! The lines of a ledger: a line for each response that the front took, for each request that was left, and for each that a lane took
+//! over from an earlier run, lines that name a run and end one, lines that count what became of a response, and lines that stand for
+//! others that are left out.
 //!
-//! [`read_line`] reads a line, and [`write_begin`], [`write_entry`], [`write_left`], [`write_record_count`] and [`write_end`] write one
-//! without its last brace: its sum comes behind that. `specs/Lines.antt` says which octets are a line, and `specs/Written.antt` what is written.
+//! [`read_line`] reads a line, and [`write_begin`], [`write_entry`], [`write_left`], [`write_resumed`], [`write_record_count`],
+//! [`write_answer_count`] and [`write_end`] write one without its last brace: its sum comes behind that. `specs/Lines.antt` says which octets are a line, and `specs/Written.antt` what is written.
 #![tactic(auto)]
 
 mod about;
@@ -18,6 +19,7 @@ mod left;
 mod moments;
 mod reading;
 mod record_count;
+mod resumed;
 mod values;
 mod writing;
 
@@ -31,4 +33,5 @@ pub use laws::written_lines_are_read;
 pub use left::write_left;
 pub use moments::moment_of;
 pub use reading::{Line, MOST_LINE_OCTETS, Room, SummedLine, read_line};
-pub use record_count::{CountKind, write_record_count};
+pub use record_count::{CountKind, write_answer_count, write_record_count};
+pub use resumed::write_resumed;

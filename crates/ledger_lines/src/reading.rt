@@ -1,10 +1,10 @@
 //! Reading a line of a ledger.
 
-ghost use Rattle.std.specs.Prelude.{MatchResult};
+ghost use Rattle.std.specs.Prelude.{MatchResult, codes};
 ghost use Rattle.json.specs.Value.{value_view};
 ghost use Rattle.ledger_lines.specs.declared.reading.Line.{Line as TheLine};
 ghost use Rattle.ledger_lines.specs.declared.reading.SummedLine.{SummedLine as TheSummedLine};
-ghost use Rattle.ledger_lines.specs.Lines.{Denies, IsLine, IsLineOf};
+ghost use Rattle.ledger_lines.specs.Lines.{Denies, HasText, IsLine, IsLineOf};
 
 use crate::begin::{Begin, begin_of};
 use crate::end::{End, end_of};
@@ -12,10 +12,11 @@ use crate::entry::entry_of;
 use crate::faults::LineFault;
 use crate::hidden::{Hidden, hidden_of};
 use crate::left::left_of;
-use crate::record_count::record_count_of;
+use crate::record_count::{answer_count_of, record_count_of};
+use crate::resumed::resumed_of;
 use crate::values::{read_value, sum_if_any_at, text_at};
 use json::{Scratch, Value};
-use ledger_rules::{Entry, Left, RecordCount};
+use ledger_rules::{AnswerCount, Entry, Left, RecordCount, Resumed};
 use std::alloc::Global;
 
 /// The most octets of a line.
@@ -32,6 +33,10 @@ pub enum Line<'a> {
     Unsent(RecordCount<'a>),
     /// It counts how often a response was sent again.
     Again(RecordCount<'a>),
+    /// It counts how often the response of an earlier run was sent again.
+    AgainEarlier(AnswerCount<'a>),
+    /// A lane took over a request that an earlier run left.
+    Resumed(Resumed<'a>),
     /// It ends a run.
     End(End<'a>),
     /// It stands for a line that is left out.
@@ -128,8 +133,20 @@ fn line_of<'a>(
         "begin" => Ok(Line::Begin(begin_of(alloc, value)?)),
         "end" => Ok(Line::End(end_of(alloc, value)?)),
         "unsent" => Ok(Line::Unsent(record_count_of(value, "unsent")?)),
-        "again" => Ok(Line::Again(record_count_of(value, "again")?)),
+        "again" => again_of(value),
+        "resumed" => Ok(Line::Resumed(resumed_of(value)?)),
         "hidden" => Ok(Line::Hidden(hidden_of(value)?)),
         _ => Err(LineFault::NotALine),
     }
+}
+
+/// A line about a response that was sent again: of a record, or of an earlier run.
+fn again_of<'a>(value: &Value<'a>) -> Result<Line<'a>, LineFault>
+    requires { HasText (codes "type") (value_view value.now) (codes "again") }
+    ensures { MatchResult result (λ line. IsLineOf (value_view value.now) line) (λ fault. Denies fault ((line : TheLine) × IsLineOf (value_view value.now) line)) }
+{
+    if value.get("record").is_none() {
+        return Ok(Line::AgainEarlier(answer_count_of(value)?));
+    }
+    Ok(Line::Again(record_count_of(value, "again")?))
 }

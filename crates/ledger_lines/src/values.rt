@@ -4,7 +4,7 @@ ghost use Rattle.std.specs.Prelude.{◌≡◌, ◌++◌, [], ◌∷◌, Bool, If
 ghost use Rattle.json.specs.Value.{items_view, value_view, members_view};
 ghost use Rattle.ledger_lines.specs.declared.faults.LineFault.TheVariants.{OutOfMemory};
 ghost use Rattle.json_objects.specs.Written.{IsValue};
-ghost use Rattle.ledger_lines.specs.Lines.{Denies, HasText, as_items, HasArray, HasAuthenticator, HasClient, HasList, HasNumber, HasOctets, HasOnly, HasRun, HasTime, HasTimeForm, HasTruth, has_form, IsTime, MayHaveNumber, MayHaveSum, MayHaveTime, MayHaveWords};
+ghost use Rattle.ledger_lines.specs.Lines.{Denies, HasText, as_items, HasArray, HasAuthenticator, HasClient, HasList, HasName, HasNumber, HasOctets, HasOnly, HasRun, HasTime, HasTimeForm, HasTruth, has_form, IsTime, MayHaveNumber, MayHaveSum, MayHaveTime, MayHaveWords};
 ghost use Rattle.json.specs.Json.{Items, Json};
 ghost use Rattle.std.specs.List.{All, Contains};
 ghost use Rattle.json.specs.Strict.{keys};
@@ -152,11 +152,18 @@ pub(crate) fn octets_at<'r>(
 }
 
 /// A run's name: sixteen hexadecimal digits.
-#[tactic(auto, using(crate::proofs::Parts::array_found, crate::proofs::Parts::run_found, crate::proofs::Parts::no_run, crate::proofs::Parts::no_array, crate::proofs::Parts::no_run_text))]
 pub(crate) fn run_at(value: &Value<'_>) -> Result<u64, LineFault>
     ensures { MatchResult result (λ run. HasRun (value_view value.now) run) (λ fault. Denies fault ((run : ℕ) × HasRun (value_view value.now) run)) }
 {
-    let digits = text_at(value, "run")?;
+    name_at(value, "run")
+}
+
+/// A run's name at a key: sixteen hexadecimal digits.
+#[tactic(auto, using(crate::proofs::Parts::array_found, crate::proofs::Parts::name_found, crate::proofs::Parts::no_name, crate::proofs::Parts::no_array, crate::proofs::Parts::no_name_text))]
+pub(crate) fn name_at(value: &Value<'_>, key: &str) -> Result<u64, LineFault>
+    ensures { MatchResult result (λ run. HasName key.now (value_view value.now) run) (λ fault. Denies fault ((run : ℕ) × HasName key.now (value_view value.now) run)) }
+{
+    let digits = text_at(value, key)?;
     let mut octets = [0; 8];
     if fill(digits.as_bytes(), &mut octets) {
         Ok(u64::from_be_bytes(octets))

@@ -6,3 +6,4 @@ pub mod Numbers
 pub mod Accounting
 pub mod Leaving
 pub mod Printed
+pub mod Resuming

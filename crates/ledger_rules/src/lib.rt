@@ -18,6 +18,7 @@ mod numbers;
 mod packets;
 mod reason;
 mod record_count;
+mod resumed;
 mod tally;
 
 pub use account::{Account, Fates, lane_verdict};
@@ -31,5 +32,6 @@ pub use numbers::{MOST_RANGES, Numbers};
 pub use packets::{ends_with_mark, whole_packet};
 pub use rad_lane::LeftState;
 pub use reason::Reason;
-pub use record_count::RecordCount;
+pub use record_count::{AnswerCount, RecordCount};
+pub use resumed::{Resumed, Resumption, Resumptions};
 pub use tally::{Gap, Tally, Verdict};

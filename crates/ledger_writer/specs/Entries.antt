@@ -3,18 +3,23 @@ use Rattle.std.specs.Prelude.{◌≡◌, ℕ, ◌⊎◌, ⊤, Bool, List, [], Op
 use Rattle.ledger_files.specs.Moments.{IsTimeOf, moment_text}
 use Rattle.ledger_files.specs.declared.utc.UtcTime.{UtcTime}
 use Rattle.json_objects.specs.Written.{HasFrontBehind}
-use Rattle.ledger_lines.specs.Written.{entry_value, left_value, record_count_value}
+use Rattle.ledger_lines.specs.Written.{answer_count_value, entry_value, left_value, record_count_value, resumed_value}
 use Rattle.ledger_lines.specs.declared.record_count.CountKind.{CountKind}
 use Rattle.rad_config.specs.Realm.{realm_of_packet}
+use Rattle.rad_desk.specs.declared.ledger.Earlier.{Earlier}
 use Rattle.rad_desk.specs.ToldValues.{first_value, status_in}
 use Rattle.rad_lane.specs.Session.{session_id}
 use Rattle.ledger_rules.specs.declared.entry.Entry.{Entry}
 use Rattle.ledger_rules.specs.declared.left.Left.{Left}
 use Rattle.ledger_rules.specs.declared.line_request.LineRequest.{LineRequest}
+use Rattle.ledger_rules.specs.declared.record_count.AnswerCount.{AnswerCount}
 use Rattle.ledger_rules.specs.declared.record_count.RecordCount.{RecordCount}
+use Rattle.ledger_rules.specs.declared.resumed.Resumed.{Resumed}
 use Rattle.rad_packet.specs.Reading.{ReadsAs, Refuses}
 use Rattle.rad_packet.specs.declared.faults.ReadFault.{ReadFault}
 use Rattle.rad_lane.specs.declared.leftover.LeftState.{LeftState}
+use Rattle.ledger_writer.specs.declared.parcel.NoteKind.{NoteKind}
+use Rattle.ledger_writer.specs.declared.parcel.NoteKind.TheVariants as note
 use Rattle.ledger_writer.specs.declared.parcel.ParcelKind.{ParcelKind}
 use Rattle.ledger_writer.specs.declared.parcel.ParcelKind.TheVariants.{Count as counted, Left as left, Response as response}
 use Rattle.ledger_writer.specs.declared.parcel.Parcel.{Parcel}
@@ -125,10 +130,52 @@ pub record HasCountBehind (names : RunNames) (head : ParcelHead) (kind : CountKi
   pub is : IsCountOf names head its moment told
   pub line : HasFrontBehind before all (record_count_value kind told)
 
+-- The same of the response of an earlier run that was sent again: with the run, the lane and the serial of that. What the head tells of a
+-- record is not said.
+pub record IsAnswerCountOf (names : RunNames) (head : ParcelHead) (answer : Earlier) (its : ℕ) (moment : List ℕ) (told : AnswerCount) : Type 0 where
+  pub run : told.run ≡ names.run
+  pub time : told.time.now ≡ moment
+  pub home : IsHome names head.lane told.home.now
+  pub lane : told.lane ≡ head.lane
+  pub answer_run : told.answer_run ≡ answer.run
+  pub answer_lane : told.answer_lane ≡ answer.lane
+  pub answer_serial : told.answer_serial ≡ answer.number
+  pub count : told.count ≡ its
+
+pub record HasAnswerCountBehind (names : RunNames) (head : ParcelHead) (answer : Earlier) (its : ℕ) (before all : List ℕ) : Type 0 where
+  pub moment : List ℕ
+  pub told : AnswerCount
+  pub time : IsMomentText head.time moment
+  pub is : IsAnswerCountOf names head answer its moment told
+  pub line : HasFrontBehind before all (answer_count_value told)
+
+-- The same of a record that an earlier run left: with the run, the lane and the number of its first acceptance.
+pub record IsResumedOf (names : RunNames) (head : ParcelHead) (first : Earlier) (moment : List ℕ) (told : Resumed) : Type 0 where
+  pub run : told.run ≡ names.run
+  pub time : told.time.now ≡ moment
+  pub home : IsHome names head.lane told.home.now
+  pub lane : told.lane ≡ head.lane
+  pub number : told.number ≡ head.number
+  pub first_run : told.first_run ≡ first.run
+  pub first_lane : told.first_lane ≡ first.lane
+  pub first_number : told.first_number ≡ first.number
+
+pub record HasResumedBehind (names : RunNames) (head : ParcelHead) (first : Earlier) (before all : List ℕ) : Type 0 where
+  pub moment : List ℕ
+  pub told : Resumed
+  pub time : IsMomentText head.time moment
+  pub is : IsResumedOf names head first moment told
+  pub line : HasFrontBehind before all (resumed_value told)
+
+abbrev pub HasNoteBehind : NoteKind → RunNames → ParcelHead → ℕ → List ℕ → List ℕ → Type 0
+HasNoteBehind (note.Count kind) names head its before all = HasCountBehind names head kind its before all
+HasNoteBehind (note.AgainEarlier answer) names head its before all = HasAnswerCountBehind names head answer its before all
+HasNoteBehind (note.Resumed first) names head its before all = HasResumedBehind names head first before all
+
 abbrev pub HasLineOf : ParcelKind → RunNames → Parcel → List ℕ → List ℕ → Type 0
 HasLineOf (response serial sent_count reply_count response_count) names parcel before all = HasEntryBehind names parcel serial before all
 HasLineOf (left state is_kept request_count) names parcel before all = HasLeftBehind names parcel state is_kept before all
-HasLineOf (counted kind count) names parcel before all = HasCountBehind names parcel.head kind count before all
+HasLineOf (counted kind count) names parcel before all = HasNoteBehind kind names parcel.head count before all
 
 abbrev pub HasParcelBehind : RunNames → Parcel → List ℕ → List ℕ → Type 0
 HasParcelBehind names parcel before all = HasLineOf parcel.head.its names parcel before all

@@ -103,6 +103,16 @@ impl AccountedGiver {
         self.giver.give(&parcel)
     }
 
+    /// Puts one of what is told of a record into the buffer, and returns whether there was room for it.
+    pub(crate) fn give_note(&mut self, time: u64, key: CountKey) -> bool
+        ensures put { MatchBool result ((parcel : TheParcel) × IsParcelOfCount time key 1 parcel × Gives self.old.giver parcel self.new.giver) (GivesNothing self.old.giver self.new.giver) }
+        ensures handed { self.new.handed ≡ self.old.handed }
+        ensures left { self.new.left ≡ self.old.left }
+    {
+        let note = Parcel::of_count(time, key, 1);
+        self.giver.give(&note)
+    }
+
     /// Drops a request that is told as left.
     pub(crate) fn drop_left(&mut self, told: &LeftRecord<'_>)
         ensures put { GivesNothing self.old.giver self.new.giver }

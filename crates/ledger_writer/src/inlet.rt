@@ -7,13 +7,13 @@ ghost use Rattle.ledger_writer.specs.Buffer.{Gives, GivesNothing, PutsEntry};
 ghost use Rattle.ledger_writer.specs.Parcels.{IsCounted, IsParcelOfLeft};
 
 use crate::accounting::AccountedGiver;
-use crate::parcel::{CountKey, Parcel, ParcelHead};
+use crate::parcel::{CountKey, NoteKind, Parcel, ParcelHead};
 use crate::record_counts::RecordCounts;
 use crate::shares::{ClientShares, NOTHING, Taking};
 use ledger_lines::CountKind;
 use ledger_state::LedgerState;
 use rad_auth::Mark;
-use rad_desk::{Ledger, LeftRecord, Wire};
+use rad_desk::{AcceptedRecord, Earlier, Ledger, LeftRecord, Wire};
 use rad_lane::{Counts, Outgoing};
 use rad_metrics::time_since_1970;
 use std::sync::{Arc, Wait, WaitMethods};
@@ -67,6 +67,13 @@ impl<R: Clock + Wait> Ledger for LedgerInlet<'_, R> {
         self.state.begin();
     }
 
+    fn accept(&mut self, accepted: &AcceptedRecord) {
+        if let Some(first) = accepted.first {
+            self.read_time();
+            self.resume(accepted.lane, accepted.number, first);
+        }
+    }
+
     fn keep<W: Wire>(&mut self, outgoing: &Outgoing, wire: &W) {
         let Mark { lane, number } = outgoing.reply.mark();
         let response = outgoing.reply.response();
@@ -85,7 +92,13 @@ impl<R: Clock + Wait> Ledger for LedgerInlet<'_, R> {
     fn send_again(&mut self, lane: u16, number: u64, response: &[u8]) {
         self.state.send_response(lane, number, response);
         self.read_time();
-        self.count(CountKind::Again, lane, number);
+        self.count(NoteKind::Count(CountKind::Again), lane, number);
+        self.tell_due(self.time);
+    }
+
+    fn send_earlier(&mut self, lane: u16, answer: Earlier) {
+        self.read_time();
+        self.count(NoteKind::AgainEarlier(answer), lane, 0);
         self.tell_due(self.time);
     }
 
@@ -104,7 +117,7 @@ impl<R: Clock + Wait> Ledger for LedgerInlet<'_, R> {
 
 impl<R: Clock> LedgerInlet<'_, R> {
     /// Counts one more of a record.
-    fn count(&mut self, kind: CountKind, lane: u16, number: u64)
+    fn count(&mut self, kind: NoteKind, lane: u16, number: u64)
         ensures handed { self.new.accounted.handed ≡ self.old.accounted.handed }
         ensures left { self.new.accounted.left ≡ self.old.accounted.left }
     {
@@ -116,6 +129,18 @@ impl<R: Clock> LedgerInlet<'_, R> {
             self.tell_oldest();
         }
         self.counts.remember(self.time, key, 1);
+    }
+
+    /// Tells that a lane accepted under this number what an earlier run left. If there is no room for that, it is dropped.
+    fn resume(&mut self, lane: u16, number: u64, first: Earlier)
+        ensures handed { self.new.accounted.handed ≡ self.old.accounted.handed }
+        ensures left { self.new.accounted.left ≡ self.old.accounted.left }
+    {
+        let kind = NoteKind::Resumed(first);
+        let key = CountKey { lane, number, kind };
+        if !self.accounted.give_note(self.time, key) {
+            self.state.count_dropped(None);
+        }
     }
 
     /// Tells the count that waits longest.
@@ -137,7 +162,7 @@ impl<R: Clock> LedgerInlet<'_, R> {
             let Some((lane, number)) = self.state.take_lost() else {
                 return true;
             };
-            self.count(CountKind::Unsent, lane, number);
+            self.count(NoteKind::Count(CountKind::Unsent), lane, number);
         }
         false
     }

@@ -2,20 +2,20 @@
 
 ghost use Rattle.std.specs.Prelude.{◌≡◌, ◌<◌, ◌^◌, IfOk, MatchOption, None, length, option_copied, option_map, slice_get, string_bytes};
 ghost use Rattle.json_objects.specs.Written.{HasBodyBehind};
-ghost use Rattle.ledger_writer.specs.Entries.{HasCountBehind, HasEntryBehind, HasLeftBehind, HasParcelBehind, IsAboutOf, IsCountOf, IsEntryOf, IsLeftOf, IsMomentIfAny, IsMomentText, Tells};
+ghost use Rattle.ledger_writer.specs.Entries.{HasAnswerCountBehind, HasCountBehind, HasEntryBehind, HasLeftBehind, HasNoteBehind, HasParcelBehind, HasResumedBehind, IsAboutOf, IsAnswerCountOf, IsCountOf, IsEntryOf, IsLeftOf, IsMomentIfAny, IsMomentText, IsResumedOf, Tells};
 ghost use Rattle.ledger_writer.specs.RunLines.{AreCounted, AreStarts, BeginsBehind, EndsBehind, NamesIfAny, count_in, lane_number, serial_in};
 
-use crate::parcel::{Parcel, ParcelHead, ParcelKind};
+use crate::parcel::{NoteKind, Parcel, ParcelHead, ParcelKind};
 use crate::progress::LaneProgress;
 use crate::run_names::RunNames;
 use ledger_files::{FoundFile, UtcTime};
 use ledger_lines::{
-    Begin, CountKind, End, FileBefore, LaneCount, LaneStart, write_begin, write_end, write_entry,
-    write_left, write_record_count,
+    Begin, CountKind, End, FileBefore, LaneCount, LaneStart, write_answer_count, write_begin,
+    write_end, write_entry, write_left, write_record_count, write_resumed,
 };
-use ledger_rules::{Entry, Left, LineRequest, RecordCount};
+use ledger_rules::{AnswerCount, Entry, Left, LineRequest, RecordCount, Resumed};
 use ledger_state::LedgerState;
-use rad_desk::{status_of, user_of};
+use rad_desk::{Earlier, status_of, user_of};
 use rad_lane::{LeftState, session_of};
 use rad_metrics::VERSION;
 use rad_packet::read;
@@ -39,7 +39,7 @@ pub(crate) fn line_of(
         ParcelKind::Response { serial, .. } => entry_line(alloc, names, parcel, serial, out),
         ParcelKind::Left { state, kept, .. } => left_line(alloc, names, parcel, state, kept, out),
         ParcelKind::Count { kind, count } => {
-            count_line(alloc, names, &parcel.head, kind, count, out)
+            note_line(alloc, names, &parcel.head, kind, count, out)
         }
     }
 }
@@ -86,6 +86,24 @@ fn left_line(
     write_left(alloc, &left, out)
 }
 
+fn note_line(
+    alloc: Global,
+    names: &RunNames,
+    head: &ParcelHead,
+    kind: NoteKind,
+    count: u64,
+    out: Vec<u8>,
+) -> Result<Vec<u8>, AllocError>
+    ensures body { IfOk result (λ all. HasBodyBehind out.items all.items) }
+    ensures value { IfOk result (λ all. HasNoteBehind kind names.now head.now count out.items all.items) }
+{
+    match kind {
+        NoteKind::Count(kind) => count_line(alloc, names, head, kind, count, out),
+        NoteKind::AgainEarlier(answer) => answer_line(alloc, names, head, answer, count, out),
+        NoteKind::Resumed(first) => resumed_line(alloc, names, head, first, out),
+    }
+}
+
 fn count_line(
     alloc: Global,
     names: &RunNames,
@@ -114,6 +132,81 @@ fn told_of<'a>(names: &'a RunNames, head: &ParcelHead, count: u64, time: &'a str
         lane,
         number,
         count,
+    }
+}
+
+fn answer_line(
+    alloc: Global,
+    names: &RunNames,
+    head: &ParcelHead,
+    answer: Earlier,
+    count: u64,
+    out: Vec<u8>,
+) -> Result<Vec<u8>, AllocError>
+    ensures body { IfOk result (λ all. HasBodyBehind out.items all.items) }
+    ensures value { IfOk result (λ all. HasAnswerCountBehind names.now head.now answer count out.items all.items) }
+{
+    let time = time_text(alloc, head.time)?;
+    let told = answer_told_of(names, head, answer, count, time.as_str());
+    write_answer_count(alloc, &told, out)
+}
+
+fn answer_told_of<'a>(
+    names: &'a RunNames,
+    head: &ParcelHead,
+    answer: Earlier,
+    count: u64,
+    time: &'a str,
+) -> AnswerCount<'a>
+    ensures { IsAnswerCountOf names.now head.now answer count time.now result }
+{
+    let lane = head.lane;
+    AnswerCount {
+        run: names.run,
+        time,
+        home: names.home(lane),
+        lane,
+        answer_run: answer.run,
+        answer_lane: answer.lane,
+        answer_serial: answer.number,
+        count,
+    }
+}
+
+fn resumed_line(
+    alloc: Global,
+    names: &RunNames,
+    head: &ParcelHead,
+    first: Earlier,
+    out: Vec<u8>,
+) -> Result<Vec<u8>, AllocError>
+    ensures body { IfOk result (λ all. HasBodyBehind out.items all.items) }
+    ensures value { IfOk result (λ all. HasResumedBehind names.now head.now first out.items all.items) }
+{
+    let time = time_text(alloc, head.time)?;
+    let told = resumed_told_of(names, head, first, time.as_str());
+    write_resumed(alloc, &told, out)
+}
+
+fn resumed_told_of<'a>(
+    names: &'a RunNames,
+    head: &ParcelHead,
+    first: Earlier,
+    time: &'a str,
+) -> Resumed<'a>
+    ensures { IsResumedOf names.now head.now first time.now result }
+{
+    let lane = head.lane;
+    let number = head.number;
+    Resumed {
+        run: names.run,
+        time,
+        home: names.home(lane),
+        lane,
+        number,
+        first_run: first.run,
+        first_lane: first.lane,
+        first_number: first.number,
     }
 }
 

@@ -7,7 +7,7 @@ ghost use Rattle.ledger_writer.specs.Parcels.{Fits, IsCounted, IsParcelOf, IsPar
 use ledger_lines::CountKind;
 use ledger_state::Handling;
 use rad_auth::{Mark, RequestHead};
-use rad_desk::LeftRecord;
+use rad_desk::{Earlier, LeftRecord};
 use rad_lane::{LeftState, Outgoing};
 
 /// The greatest length of a packet (RFC 2865 section 3).
@@ -53,11 +53,22 @@ pub(crate) enum ParcelKind {
         /// How many octets it has.
         request: usize,
     },
-    /// How often the response of a record could not be sent, or was sent again. Its head tells the record alone.
+    /// How often something happened that a line tells without a packet. Its head tells the lane and the record alone.
     Count {
-        kind: CountKind,
+        kind: NoteKind,
         count: u64,
     },
+}
+
+/// What a line tells without a packet.
+#[derive(Clone, Copy, PartialEq, Eq, PartialOrd, Ord)]
+pub(crate) enum NoteKind {
+    /// What became of the response of a record.
+    Count(CountKind),
+    /// That the response of an earlier run was sent again. It has no record in this run.
+    AgainEarlier(Earlier),
+    /// That the lane accepted a record that an earlier run left.
+    Resumed(Earlier),
 }
 
 /// What is counted of which record.
@@ -65,7 +76,7 @@ pub(crate) enum ParcelKind {
 pub(crate) struct CountKey {
     pub(crate) lane: u16,
     pub(crate) number: u64,
-    pub(crate) kind: CountKind,
+    pub(crate) kind: NoteKind,
 }
 
 /// A parcel: its head and its packets.

@@ -17,7 +17,11 @@ fn written(alloc: Global, line: &Line<'_>) -> Result<Vec<u8>, AllocError> {
         Line::Entry(entry) => write_entry(alloc, entry, out),
         Line::Left(left) => write_left(alloc, left, out),
         Line::End(end) => write_end(alloc, end, out),
-        Line::Unsent(_) | Line::Again(_) | Line::Hidden(_) => Ok(out),
+        Line::Unsent(_)
+        | Line::Again(_)
+        | Line::AgainEarlier(_)
+        | Line::Resumed(_)
+        | Line::Hidden(_) => Ok(out),
     }
 }
 

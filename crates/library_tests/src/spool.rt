@@ -1,9 +1,12 @@
 //! Tests of what no contract says: octets from another hand, a disk that stops and tears, files of a real folder.
 
+use crate::comparing::holds;
+use memory_disk::{MemoryDisk, MemoryFolder};
 use rad_tables::Key;
 use spool_files::*;
+use spool_writer::SpoolDisk;
 use std::alloc::{AllocError, Global};
-use std::process::Abort;
+use std::sync::Arc;
 use std::{fs, io};
 
 /// A segment of two batches, as tests/lib/spool/segments.py writes it.
@@ -66,89 +69,6 @@ const GIVEN_UP: Head = Head::GivenUp(GivenUp {
 
 const REQUEST: &[u8] = &[4, 3, 0, 20, 7, 7, 7, 7, 7, 7, 7, 7, 7, 7, 7, 7, 7, 7, 7, 7];
 
-/// A disk in memory. It keeps what was synced, and what was written since. From call `stop` on each call fails.
-#[derive(Drop)]
-struct TornDisk {
-    alloc: Global,
-    calls: usize,
-    stop: usize,
-    /// What the file has, whether it is kept or not.
-    seen: Vec<u8>,
-    /// What was kept at the last sync.
-    kept: Vec<u8>,
-    /// Where the last write was, and how long it is, if no sync followed.
-    last: (usize, usize),
-}
-
-/// Puts octets at a place of a file, which may end before them.
-fn put_at(alloc: Global, file: &mut Vec<u8>, at: usize, octets: &[u8]) -> Result<(), AllocError> {
-    let end = at.saturating_add(octets.len());
-    let behind = file.get(end..).unwrap_or(&[]).to_vec(alloc)?;
-    file.resize(at, 0)?;
-    file.extend_from_slice(octets)?;
-    file.extend_from_slice(&behind)
-}
-
-impl TornDisk {
-    fn new(alloc: Global, stop: usize) -> TornDisk {
-        TornDisk {
-            alloc,
-            calls: 0,
-            stop,
-            seen: Vec::new(alloc),
-            kept: Vec::new(alloc),
-            last: (0, 0),
-        }
-    }
-
-    fn write(&mut self, at: usize, octets: &[u8]) -> Result<(), AllocError> {
-        self.last = (at, octets.len());
-        put_at(self.alloc, &mut self.seen, at, octets)
-    }
-
-    /// Returns what a crash leaves that keeps this many octets of the last write, and another octet behind them.
-    fn left(&self, alloc: Global, count: usize) -> Result<Vec<u8>, AllocError> {
-        let mut file = self.kept.to_vec(alloc)?;
-        let (at, length) = self.last;
-        let end = at.saturating_add(count.min(length));
-        put_at(alloc, &mut file, at, self.seen.get(at..end).unwrap_or(&[]))?;
-        if count < length {
-            put_at(alloc, &mut file, end, &[0xa5])?;
-        }
-        Ok(file)
-    }
-}
-
-const REFUSED: DeviceFault = DeviceFault {
-    step: Step::Write,
-    number: 5,
-};
-
-impl FileCalls for TornDisk {
-    fn write_at(&mut self, at: usize, octets: &[u8]) -> Result<(), DeviceFault> {
-        self.calls = self.calls.saturating_add(1);
-        if self.write(at, octets).is_err() || self.calls >= self.stop {
-            return Err(REFUSED);
-        }
-        Ok(())
-    }
-
-    fn sync(&mut self) -> Result<(), DeviceFault> {
-        self.calls = self.calls.saturating_add(1);
-        if self.calls >= self.stop {
-            return Err(REFUSED);
-        }
-        match self.seen.to_vec(self.alloc) {
-            Ok(kept) => {
-                self.kept = kept;
-                self.last = (0, 0);
-                Ok(())
-            }
-            Err(_) => Err(REFUSED),
-        }
-    }
-}
-
 /// What a test of crashes appends.
 const BODIES: &[&[u8]] = &[
     b"", b"1", b"22", b"333", b"4444", b"55555", b"666666", b"", b"8", b"99", b"101", b"1111",
@@ -157,16 +77,15 @@ const BODIES: &[&[u8]] = &[
     b"", b"3", b"37", b"383", b"3939",
 ];
 
-/// Checks a condition. It is proved once here, and not in each test.
-fn holds(rt: &impl Abort, is_right: bool) {
-    assert!(rt; is_right);
-}
+/// The number of the segment that a test appends to.
+const NUMBER: u64 = 1;
 
-/// Appends bodies to a new segment until one fails. Returns its file, and how many were acknowledged.
-fn append_each(alloc: Global, disk: TornDisk, bodies: &[&[u8]]) -> (LoggedFile<TornDisk>, usize) {
-    let mut device = LoggedFile::made(disk);
+/// Appends bodies to a new segment until one fails. Returns how many were acknowledged.
+fn append_each(alloc: Global, folder: &Arc<MemoryFolder>, bodies: &[&[u8]]) -> io::Result<usize> {
+    let disk = MemoryDisk::new(folder)?;
+    let mut device = disk.make(alloc, "", NUMBER)?;
     if begin(&mut device).is_err() {
-        return (device, 0);
+        return Ok(0);
     }
     let mut segment = Segment::new(device);
     let mut done = 0_usize;
@@ -176,7 +95,7 @@ fn append_each(alloc: Global, disk: TornDisk, bodies: &[&[u8]]) -> (LoggedFile<T
         }
         done = done.saturating_add(1);
     }
-    (segment.device, done)
+    Ok(done)
 }
 
 /// Whether the file has the first `count` batches, each sound and as it was appended, and no other.
@@ -192,27 +111,36 @@ fn has_first(alloc: Global, file: &[u8], count: usize) -> Result<bool, AllocErro
 
 /// Whether a crash that keeps this many octets of the last write leaves the batches that were acknowledged, with the next
 /// one or without.
-fn is_left(alloc: Global, disk: &TornDisk, count: usize, done: usize) -> Result<bool, AllocError> {
-    let file = disk.left(alloc, count)?;
+fn is_left(
+    alloc: Global,
+    folder: &MemoryFolder,
+    count: usize,
+    done: usize,
+) -> Result<bool, AllocError> {
+    let Some(file) = folder.left(alloc, NUMBER, count) else {
+        return Ok(false);
+    };
     Ok(has_first(alloc, &file, done)? || has_first(alloc, &file, done.saturating_add(1))?)
 }
 
-/// Whether each crash leaves them, wherever the last write tears.
-fn are_left(alloc: Global, stop: usize) -> Result<bool, AllocError> {
-    let (device, done) = append_each(alloc, TornDisk::new(alloc, stop), BODIES);
+/// Whether each crash leaves them where this call fails, wherever the last write tears.
+fn are_left(alloc: Global, calls: u64) -> io::Result<bool> {
+    let folder = MemoryFolder::new(alloc)?;
+    folder.stop_after(calls);
+    let done = append_each(alloc, &folder, BODIES)?;
     let mut are_left = true;
     for count in 0..=20 {
-        are_left = are_left && is_left(alloc, device.file(), count, done)?;
+        are_left = are_left && is_left(alloc, &folder, count, done)?;
     }
     Ok(are_left)
 }
 
-/// The disk stops at each call, and its last write tears at each octet.
+/// The disk stops at each call behind the one that makes the file, and its last write tears at each octet.
 #[test]
-fn what_is_acknowledged_is_left(rt: HostRuntime) -> Result<(), AllocError> {
+fn what_is_acknowledged_is_left(rt: HostRuntime) -> io::Result<()> {
     let mut are_all_left = true;
-    for stop in 1..=4 * BODIES.len() + 3 {
-        are_all_left = are_all_left && are_left(rt.alloc(), stop)?;
+    for calls in 1..=4 * BODIES.len() as u64 + 3 {
+        are_all_left = are_all_left && are_left(rt.alloc(), calls)?;
     }
     holds(&rt, are_all_left);
     Ok(())
@@ -236,13 +164,17 @@ fn body_of_sample(alloc: Global) -> Result<Vec<u8>, AllocError> {
 
 /// The octets of another hand are written.
 #[test]
-fn writes_the_sample(rt: HostRuntime) -> Result<(), AllocError> {
+fn writes_the_sample(rt: HostRuntime) -> io::Result<()> {
     let alloc = rt.alloc();
     let first = body_of_beginning(alloc)?;
     let second = body_of_sample(alloc)?;
-    let disk = TornDisk::new(alloc, usize::MAX);
-    let (device, _) = append_each(alloc, disk, &[first.as_slice(), second.as_slice()]);
-    holds(&rt, device.file().seen.as_slice() == SEGMENT);
+    let folder = MemoryFolder::new(alloc)?;
+    append_each(alloc, &folder, &[first.as_slice(), second.as_slice()])?;
+    let is_written = match folder.left(alloc, NUMBER, 0) {
+        Some(file) => file.as_slice() == SEGMENT,
+        None => false,
+    };
+    holds(&rt, is_written);
     Ok(())
 }
 
@@ -433,4 +365,5 @@ fn the_last_entry_counts(rt: HostRuntime) -> Result<(), AllocError> {
     Ok(())
 }
 
+mod rounds;
 mod trials;

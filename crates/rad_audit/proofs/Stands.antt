@@ -16,7 +16,9 @@ use Rattle.std.proofs.lemmas.List.Quantifiers.{position-Some}
 use Rattle.std.proofs.lemmas.Option.{slice_get_past, slice_get-get_or}
 use Rattle.rad_config.specs.Configuration.{Configuration}
 use Rattle.ledger_rules.specs.declared.left.Left.{Left as TheLeft}
+use Rattle.ledger_rules.specs.declared.record_count.AnswerCount.{AnswerCount}
 use Rattle.ledger_rules.specs.declared.record_count.RecordCount.{RecordCount}
+use Rattle.ledger_rules.specs.declared.resumed.Resumed.{Resumed as TheResumed}
 use Rattle.ledger_lines.specs.declared.begin.Begin.{Begin}
 use Rattle.ledger_lines.specs.declared.end.End.{End as TheEnd}
 use Rattle.ledger_lines.specs.declared.end.LaneCount.{LaneCount}
@@ -149,6 +151,8 @@ module _ (config : Configuration) (number : ℕ) where
   home_makes (content.Entry its) a b makes = makes.home
   home_makes (content.Left left) a b makes = makes.home
   home_makes (content.Count count) a b makes = makes.home
+  home_makes (content.AgainEarlier count) a b makes = makes.home
+  home_makes (content.Resumed its) a b makes = makes.home
   home_makes (content.End end) a b makes = home_ends (filter (λ c. c.lane == number) end.lanes.items) a b makes
   home_makes (content.Hidden hidden) a b makes = ap (λ s. s.home) makes
 
@@ -210,6 +214,8 @@ module _ (config : Configuration) (lines : List Content) (run number : ℕ) wher
   begins (content.Entry e) new none its = not_begun (content.Entry e) new none refl its
   begins (content.Left e) new none its = not_begun (content.Left e) new none refl its
   begins (content.Count e) new none its = not_begun (content.Count e) new none refl its
+  begins (content.AgainEarlier e) new none its = not_begun (content.AgainEarlier e) new none refl its
+  begins (content.Resumed e) new none its = not_begun (content.Resumed e) new none refl its
   begins (content.End e) new none its = not_begun (content.End e) new none refl its
   begins (content.Hidden e) new none its = not_begun (content.Hidden e) new none refl its
 
@@ -412,6 +418,8 @@ begins_not run number (content.Begin begin) not_it = rw not_it refl
 begins_not run number (content.Entry e) not_it = refl
 begins_not run number (content.Left e) not_it = refl
 begins_not run number (content.Count e) not_it = refl
+begins_not run number (content.AgainEarlier e) not_it = refl
+begins_not run number (content.Resumed e) not_it = refl
 begins_not run number (content.End e) not_it = refl
 begins_not run number (content.Hidden e) not_it = refl
 
@@ -429,6 +437,12 @@ left_not config left run number s other = follows_not config run number (content
 
 pub count_not : (config : Configuration) (count : RecordCount) (run number : ℕ) (s : Option (Option Standing)) → ¬ (count.run ≡ run) → Follows config run number (content.Count count) s s
 count_not config count run number s other = follows_not config run number (content.Count count) s refl (λ home. and_left (count.run == run) _ (ne_eqb count.run run other))
+
+pub earlier_not : (config : Configuration) (count : AnswerCount) (run number : ℕ) (s : Option (Option Standing)) → ¬ (count.run ≡ run) → Follows config run number (content.AgainEarlier count) s s
+earlier_not config count run number s other = follows_not config run number (content.AgainEarlier count) s refl (λ home. and_left (count.run == run) _ (ne_eqb count.run run other))
+
+pub resumed_not : (config : Configuration) (its : TheResumed) (run number : ℕ) (s : Option (Option Standing)) → ¬ (its.run ≡ run) → Follows config run number (content.Resumed its) s s
+resumed_not config its run number s other = follows_not config run number (content.Resumed its) s refl (λ home. and_left (its.run == run) _ (ne_eqb its.run run other))
 
 pub ends_not : (name : ℕ) (counts : List LaneCount) (run number : ℕ) (s : Option (Option Standing)) → ¬ (name ≡ run) → RunEnds name run number counts s s
 ends_not name counts run number None other = refl

@@ -6,7 +6,7 @@ use Rattle.std.specs.BTreeMap.{get}
 use Rattle.std.specs.Io.KnownBytes.{Appends}
 use Rattle.std.specs.Ordering.{nat_cmp}
 use Rattle.std.proofs.lemmas.List.{append-nil}
-use Rattle.rad_audit.specs.Telling.{Gets, HasCounts, TellsLane, TellsLanes, TellsRun, TellsRuns, back_of, fates_of, part_of, printed, printed_if, ranges_of}
+use Rattle.rad_audit.specs.Telling.{Gets, HasCounts, TellsLane, TellsLanes, TellsRun, TellsRuns, back_of, fates_of, part_of, printed, printed_if, ranges_of, resumed_of}
 use Rattle.rad_audit.specs.declared.lanes.Lane.{Lane}
 use Rattle.rad_audit.specs.declared.printing.Finding.{Finding}
 use Rattle.rad_audit.specs.declared.printing.Finding.TheVariants as finding
@@ -49,20 +49,21 @@ gets_rest name run xs ys zs a b c d e lanes x y z = (
   record { lanes = lanes.0; rest = xs ++ (ys ++ zs); is = refl; tells = lanes.2 },
 )
 
--- five things that are told, one after the other
-pub appends_five : (a b c d e f : Option (List ℕ)) (v w x y z : List ℕ) → Appends a b v → Appends b c w → Appends c d x → Appends d e y → Appends e f z → Appends a f (v ++ (w ++ (x ++ (y ++ z))))
-appends_five a b c d e f v w x y z p q r s t =
-    appends_more a b f v (w ++ (x ++ (y ++ z))) p (appends_more b c f w (x ++ (y ++ z)) q (appends_more c d f x (y ++ z) r (appends_more d e f y z s t)))
+-- six things that are told, one after the other
+pub appends_six : (a b c d e f g : Option (List ℕ)) (u v w x y z : List ℕ) → Appends a b u → Appends b c v → Appends c d w → Appends d e x → Appends e f y → Appends f g z → Appends a g (u ++ (v ++ (w ++ (x ++ (y ++ z)))))
+appends_six a b c d e f g u v w x y z o p q r s t =
+    appends_more a b g u (v ++ (w ++ (x ++ (y ++ z)))) o
+    (appends_more b c g v (w ++ (x ++ (y ++ z))) p (appends_more c d g w (x ++ (y ++ z)) q (appends_more d e g x (y ++ z) r (appends_more e f g y z s t))))
 
 -- a lane of a run, by what is found of it
-pub lane_told : (name : ℕ) (run : Run) (lane : Lane) (counts : LaneCounts) (p f r b : Option Finding) (s t u v w x : Option (List ℕ)) → HasCounts name run lane counts
-    → p ≡ part_of counts → f ≡ fates_of counts lane → r ≡ ranges_of counts lane → b ≡ back_of counts lane
-    → Appends s t (printed (finding.Lane counts)) → Appends t u (printed_if p) → Appends u v (printed_if f) → Appends v w (printed_if r) → Appends w x (printed_if b)
-    → Gets (TellsLane name run lane) s x
-lane_told name run lane counts p f r b s t u v w x has is_p is_f is_r is_b first second third fourth fifth = (
-  printed (finding.Lane counts) ++ (printed_if p ++ (printed_if f ++ (printed_if r ++ printed_if b))),
-  appends_five s t u v w x (printed (finding.Lane counts)) (printed_if p) (printed_if f) (printed_if r) (printed_if b) first second third fourth fifth,
-  record { counts = counts; has = has; is = rw (is_p, is_f, is_r, is_b) refl },
+pub lane_told : (name : ℕ) (run : Run) (lane : Lane) (counts : LaneCounts) (p f r b m : Option Finding) (s t u v w x y : Option (List ℕ)) → HasCounts name run lane counts
+    → p ≡ part_of counts → f ≡ fates_of counts lane → r ≡ ranges_of counts lane → b ≡ back_of counts lane → m ≡ resumed_of counts lane
+    → Appends s t (printed (finding.Lane counts)) → Appends t u (printed_if p) → Appends u v (printed_if f) → Appends v w (printed_if r) → Appends w x (printed_if b) → Appends x y (printed_if m)
+    → Gets (TellsLane name run lane) s y
+lane_told name run lane counts p f r b m s t u v w x y has is_p is_f is_r is_b is_m first second third fourth fifth sixth = (
+  printed (finding.Lane counts) ++ (printed_if p ++ (printed_if f ++ (printed_if r ++ (printed_if b ++ printed_if m)))),
+  appends_six s t u v w x y (printed (finding.Lane counts)) (printed_if p) (printed_if f) (printed_if r) (printed_if b) (printed_if m) first second third fourth fifth sixth,
+  record { counts = counts; has = has; is = rw (is_p, is_f, is_r, is_b, is_m) refl },
 )
 
 -- the next run

@@ -35,6 +35,8 @@ IsJudgedContent (content.Begin begin) = ⊤
 IsJudgedContent (content.Entry entry) = IsJudged entry
 IsJudgedContent (content.Left left) = ⊤
 IsJudgedContent (content.Count count) = ⊤
+IsJudgedContent (content.AgainEarlier count) = ⊤
+IsJudgedContent (content.Resumed resumed) = ⊤
 IsJudgedContent (content.End end) = ⊤
 IsJudgedContent (content.Hidden hidden) = ⊤
 
@@ -48,6 +50,8 @@ HasContent (read.Entry entry) its = (judged : JudgedEntry) × (its ≡ content.E
 HasContent (read.Left left) its = its ≡ content.Left left
 HasContent (read.Unsent count) its = its ≡ content.Count count
 HasContent (read.Again count) its = its ≡ content.Count count
+HasContent (read.AgainEarlier count) its = its ≡ content.AgainEarlier count
+HasContent (read.Resumed resumed) its = its ≡ content.Resumed resumed
 HasContent (read.End end) its = its ≡ content.End end
 HasContent (read.Hidden hidden) its = its ≡ content.Hidden hidden
 

@@ -1,5 +1,5 @@
 -- How the lanes of the runs stand after lines of ledgers (own).
-use Rattle.std.specs.Prelude.{◌≡◌, ◌==◌, ◌&&◌, ◌+◌, ◌-◌, ◌^◌, not, ℕ, Bool, true, false, List, [], ◌∷◌, ◌++◌, find, filter, map, min, if◌then◌else◌, Option, Some, None, is_some, option_copied, option_map, MatchBool, MatchOption, IsTrue, string_bytes, ◌⊎◌, ◌↔◌}
+use Rattle.std.specs.Prelude.{◌≡◌, ◌==◌, ◌&&◌, ◌+◌, ◌-◌, ◌^◌, ◌≤◌, not, ℕ, Bool, true, false, List, [], ◌∷◌, ◌++◌, find, filter, map, min, if◌then◌else◌, Option, Some, None, is_some, option_copied, option_map, MatchBool, MatchOption, IsTrue, string_bytes, ◌⊎◌, ◌↔◌}
 use Rattle.std.specs.List.{flat_map, list_any}
 use Rattle.std.specs.Option.{option_and_then}
 use Rattle.std.specs.Str.{bytes_eq}
@@ -10,6 +10,7 @@ use Rattle.rad_config.specs.Realm.{client_of}
 use Rattle.ledger_rules.specs.Accounting.{Differs}
 use Rattle.ledger_rules.specs.Counting.{Counts}
 use Rattle.ledger_rules.specs.Numbers.{Keeps}
+use Rattle.ledger_rules.specs.Resuming.{Resumes}
 use Rattle.ledger_rules.specs.declared.account.Account.{Account}
 use Rattle.ledger_rules.specs.declared.account.Fates.{Fates}
 use Rattle.ledger_rules.specs.declared.ending.EndCounts.{EndCounts}
@@ -17,7 +18,11 @@ use Rattle.ledger_rules.specs.declared.ending.Ending.{Ending}
 use Rattle.ledger_rules.specs.declared.left.Left.{Left}
 use Rattle.ledger_rules.specs.declared.line_request.LineRequest.{LineRequest}
 use Rattle.ledger_rules.specs.declared.reason.Reason.{Reason}
+use Rattle.ledger_rules.specs.declared.record_count.AnswerCount.{AnswerCount}
 use Rattle.ledger_rules.specs.declared.record_count.RecordCount.{RecordCount}
+use Rattle.ledger_rules.specs.declared.resumed.Resumed.{Resumed}
+use Rattle.ledger_rules.specs.declared.resumed.Resumption.{Resumption}
+use Rattle.ledger_rules.specs.declared.resumed.Resumptions.{Resumptions}
 use Rattle.ledger_rules.specs.declared.tally.Tally.{Tally}
 use Rattle.ledger_lines.specs.declared.begin.Begin.{Begin}
 use Rattle.ledger_lines.specs.declared.end.LaneCount.{LaneCount}
@@ -41,12 +46,13 @@ pub record Standing : Type 0 where
   pub home : List ℕ
   pub tally : Tally
   pub account : Account
+  pub resumed : Resumptions
   pub ending : Ending
   pub not_judged : ℕ
 
 abbrev pub standing : Lane → Standing
 standing lane =
-    record { home = string_bytes lane.home.0; tally = lane.tally; account = lane.account; ending = lane.ending; not_judged = lane.not_judged }
+    record { home = string_bytes lane.home.0; tally = lane.tally; account = lane.account; resumed = lane.resumed; ending = lane.ending; not_judged = lane.not_judged }
 
 -- That of the lane of a number: none if its run has no such lane. Of a run that no line names there is nothing.
 abbrev pub standing_in : ℕ → List Lane → Option Standing
@@ -74,6 +80,7 @@ pub record MakesEntry (e : JudgedEntry) (old new : Standing) : Type 0 where
   pub takes : Takes e.entry (option_copied e.home) (option_copied e.client) old.tally old.account taken new.tally new.account
   pub ending : GoesOn (is_counted taken) old.ending new.ending
   pub not_judged : new.not_judged ≡ one_more_if (is_counted taken && not (is_some e.home && is_some e.client)) old.not_judged
+  pub resumed : new.resumed ≡ old.resumed
   pub home : new.home ≡ old.home
 
 -- The secret of a client.
@@ -87,6 +94,7 @@ pub record MakesLeft (config : Configuration) (left : Left) (old new : Standing)
   pub tally : new.tally ≡ old.tally
   pub ending : GoesOn (not (is_some wrong)) old.ending new.ending
   pub not_judged : new.not_judged ≡ one_more_if (not (is_some wrong) && not (is_some (secret_at config left.about.client))) old.not_judged
+  pub resumed : new.resumed ≡ old.resumed
   pub home : new.home ≡ old.home
 
 -- What a count of what became of a response makes of it.
@@ -95,8 +103,34 @@ pub record MakesCount (count : RecordCount) (old new : Standing) : Type 0 where
   pub known : ¬ LacksRecord old.tally old.account count.number → GoesOn true old.ending new.ending
   pub tally : new.tally ≡ old.tally
   pub account : new.account ≡ old.account
+  pub resumed : new.resumed ≡ old.resumed
   pub not_judged : new.not_judged ≡ old.not_judged
   pub home : new.home ≡ old.home
+
+-- What a count of how often the response of an earlier run was sent again makes of it. It is wrong if it names the run itself.
+pub record MakesEarlier (count : AnswerCount) (old new : Standing) : Type 0 where
+  pub own : count.answer_run ≡ count.run → GoesOn false old.ending new.ending
+  pub earlier : ¬ (count.answer_run ≡ count.run) → GoesOn true old.ending new.ending
+  pub tally : new.tally ≡ old.tally
+  pub account : new.account ≡ old.account
+  pub resumed : new.resumed ≡ old.resumed
+  pub not_judged : new.not_judged ≡ old.not_judged
+  pub home : new.home ≡ old.home
+
+-- What a request that it took over makes of it.
+pub record MakesResumed (its : Resumed) (old new : Standing) : Type 0 where
+  pub wrong : Option Reason
+  pub resumes : Resumes its old.account old.resumed wrong new.resumed
+  pub ending : GoesOn (not (is_some wrong)) old.ending new.ending
+  pub tally : new.tally ≡ old.tally
+  pub account : new.account ≡ old.account
+  pub not_judged : new.not_judged ≡ old.not_judged
+  pub home : new.home ≡ old.home
+
+-- An end line counts less requests than the number of the last one that was taken over.
+abbrev pub IsBeyond : Option ℕ → Option Resumption → Type 0
+IsBeyond None last = ⊥
+IsBeyond (Some accepted) last = MatchOption last ⊥ (λ its. accepted ≤ its.number)
 
 -- What an end line says of the requests of a lane, if it does.
 abbrev pub fates_in : LaneCount → Option Fates
@@ -112,6 +146,7 @@ pub record MakesEnd (count : LaneCount) (old new : Standing) : Type 0 where
   pub told : new.account.told ≡ fates_in count
   pub said : new.ending.said ≡ Some (record { entries = count.entries; fates = fates_in count })
   pub contradicted : IsTrue new.ending.contradicted ↔ (IsTrue old.ending.contradicted ⊎ Differs old.ending.said (record { entries = count.entries; fates = fates_in count }))
+  pub resumed : new.resumed ≡ old.resumed
   pub not_judged : new.not_judged ≡ old.not_judged
   pub home : new.home ≡ old.home
 
@@ -129,6 +164,8 @@ is_of run number home (content.Begin begin) = false
 is_of run number home (content.Entry its) = is_about run number home its.entry.about
 is_of run number home (content.Left left) = is_about run number home left.about
 is_of run number home (content.Count count) = count.run == run && (count.lane == number && bytes_eq home count.home.now)
+is_of run number home (content.AgainEarlier count) = count.run == run && (count.lane == number && bytes_eq home count.home.now)
+is_of run number home (content.Resumed its) = its.run == run && (its.lane == number && bytes_eq home its.home.now)
 is_of run number home (content.End end) = end.run == run
 is_of run number home (content.Hidden hidden) = false
 
@@ -138,6 +175,8 @@ Makes config number (content.Begin begin) old new = new ≡ old
 Makes config number (content.Entry its) old new = MakesEntry its old new
 Makes config number (content.Left left) old new = MakesLeft config left old new
 Makes config number (content.Count count) old new = MakesCount count old new
+Makes config number (content.AgainEarlier count) old new = MakesEarlier count old new
+Makes config number (content.Resumed its) old new = MakesResumed its old new
 Makes config number (content.End end) old new = MakeEnds (filter (λ count. count.lane == number) end.lanes.items) old new
 Makes config number (content.Hidden hidden) old new = new ≡ old
 
@@ -151,6 +190,7 @@ pub record IsFresh (start : LaneStart) (its : Standing) : Type 0 where
   pub home : its.home ≡ start.home.now
   pub first : (its.tally.first ≡ start.serial) × (its.tally.end ≡ None) × Counts its.tally []
   pub account : Keeps its.account.numbers [] × (its.account.left ≡ 0) × (its.account.told ≡ None)
+  pub resumed : (its.resumed.count ≡ 0) × (its.resumed.last ≡ None)
   pub ending : (its.ending.said ≡ None) × (its.ending.contradicted ≡ false)
   pub not_judged : its.not_judged ≡ 0
 
@@ -159,6 +199,8 @@ is_begin_of run (content.Begin begin) = begin.run == run
 is_begin_of run (content.Entry its) = false
 is_begin_of run (content.Left left) = false
 is_begin_of run (content.Count count) = false
+is_begin_of run (content.AgainEarlier count) = false
+is_begin_of run (content.Resumed its) = false
 is_begin_of run (content.End end) = false
 is_begin_of run (content.Hidden hidden) = false
 
@@ -210,6 +252,8 @@ Begins run number (content.Begin begin) after = MatchBool (begin.run == run) (Ma
 Begins run number (content.Entry its) after = after ≡ None
 Begins run number (content.Left left) after = after ≡ None
 Begins run number (content.Count count) after = after ≡ None
+Begins run number (content.AgainEarlier count) after = after ≡ None
+Begins run number (content.Resumed its) after = after ≡ None
 Begins run number (content.End end) after = after ≡ None
 Begins run number (content.Hidden hidden) after = after ≡ None
 

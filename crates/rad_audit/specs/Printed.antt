@@ -49,6 +49,7 @@ line_of (finding.Fates name fates) =
     name_text name ++ codes " accepted " ++ decimal fates.accepted ++ codes " answered " ++ decimal fates.answered ++ codes " left " ++ decimal fates.left
 line_of (finding.Ranges name) = name_text name ++ codes " more than 4096 ranges"
 line_of (finding.Back name steps) = name_text name ++ codes " " ++ steps_text steps
+line_of (finding.Resumed name count) = name_text name ++ codes " resumed " ++ decimal count
 line_of (finding.Hidden run count) = codes "run " ++ run_text run ++ codes " hidden " ++ decimal count
 line_of (finding.Before run file) = codes "run " ++ run_text run ++ codes " before " ++ word_text (string_bytes file.now.name.0) ++ codes " missing"
 line_of (finding.Untied run) = codes "run " ++ run_text run ++ codes " untied"

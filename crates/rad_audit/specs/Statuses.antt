@@ -88,6 +88,7 @@ found_with asked (finding.Part counts) f = f
 found_with asked (finding.Fates name fates) f = f
 found_with asked (finding.Ranges name) f = f
 found_with asked (finding.Back name steps) f = f
+found_with asked (finding.Resumed name count) f = f
 found_with asked (finding.Hidden run count) f = record f { part = f.part || not asked.partial }
 found_with asked (finding.Before run file) f = record f { run = f.run || asked.all }
 found_with asked (finding.Untied run) f = record f { run = f.run || asked.all }

@@ -15,7 +15,7 @@ use Rattle.ledger_rules.specs.declared.reason.Reason.TheVariants.{NotEntry, NoPa
 use Rattle.ledger_rules.specs.declared.tally.Gap.{Gap}
 use Rattle.ledger_rules.specs.declared.tally.Tally.{Tally}
 use Rattle.ledger_lines.specs.declared.hidden.HiddenKind.{HiddenKind}
-use Rattle.ledger_lines.specs.declared.hidden.HiddenKind.TheVariants.{Entry as AnEntry, Left as ALeft, Unsent as AnUnsent, Again as AnAgain}
+use Rattle.ledger_lines.specs.declared.hidden.HiddenKind.TheVariants.{Entry as AnEntry, Left as ALeft, Unsent as AnUnsent, Again as AnAgain, Resumed as AResumed}
 use Rattle.rad_audit.specs.declared.hidden.HiddenLines.{HiddenLines}
 use Rattle.rad_audit.specs.Facts.{number_at, value_at}
 use Rattle.rad_audit.specs.declared.wording.LineWords.{LineWords}
@@ -50,6 +50,7 @@ with_hidden AnEntry lines = record lines { entries = min (lines.entries + 1) (2 
 with_hidden ALeft lines = record lines { left = min (lines.left + 1) (2 ^ 64 - 1) }
 with_hidden AnUnsent lines = lines
 with_hidden AnAgain lines = lines
+with_hidden AResumed lines = lines
 
 -- No line of the lane has this number, as far as that is known, and no response of the lane is missing so far.
 abbrev pub LacksRecord : Tally → Account → ℕ → Type 0

@@ -31,8 +31,8 @@ pub record HasCounts (name : ℕ) (run : Run) (lane : Lane) (counts : LaneCounts
   pub verdict : (serials numbers : List ℕ) → Counts lane.tally serials → Keeps lane.account.numbers numbers
       → JudgesLane lane.tally lane.account lane.ending (IsTrue (counts.late || (counts.bare || (counts.uncounted || not (lane.not_judged == 0))))) serials numbers counts.verdict
 
--- What is told of a lane besides: why it is a part, what became of its requests, whether its numbers are merged, and its steps back in
--- time.
+-- What is told of a lane besides: why it is a part, what became of its requests, whether its numbers are merged, its steps back in time,
+-- and how many requests it took over.
 abbrev pub part_of : LaneCounts → Option Finding
 part_of counts = if is_partial counts then Some (finding.Part counts) else None
 
@@ -46,10 +46,13 @@ ranges_of counts lane = if lane.account.numbers.exact_from == 0 then None else S
 abbrev pub back_of : LaneCounts → Lane → Option Finding
 back_of counts lane = if lane.times.back == 0 then None else Some (finding.Back counts.name lane.times.back)
 
+abbrev pub resumed_of : LaneCounts → Lane → Option Finding
+resumed_of counts lane = if lane.resumed.count == 0 then None else Some (finding.Resumed counts.name lane.resumed.count)
+
 pub record TellsLane (name : ℕ) (run : Run) (lane : Lane) (text : List ℕ) : Type 0 where
   pub counts : LaneCounts
   pub has : HasCounts name run lane counts
-  pub is : text ≡ printed (finding.Lane counts) ++ (printed_if (part_of counts) ++ (printed_if (fates_of counts lane) ++ (printed_if (ranges_of counts lane) ++ printed_if (back_of counts lane))))
+  pub is : text ≡ printed (finding.Lane counts) ++ (printed_if (part_of counts) ++ (printed_if (fates_of counts lane) ++ (printed_if (ranges_of counts lane) ++ (printed_if (back_of counts lane) ++ printed_if (resumed_of counts lane)))))
 
 -- The lanes of a run, one after the other.
 abbrev pub TellsLanes : ℕ → Run → List Lane → List ℕ → Type 0

@@ -27,8 +27,8 @@ use crate::printing::{
 use crate::runs::{Run, Runs};
 use crate::taking::TakenEntry;
 use crate::ties::{Tie, Ties};
-use ledger_lines::{Begin, End, FileBefore, Hidden, MOST_LINE_OCTETS};
-use ledger_rules::{Entry, Gap, Left, Reason, RecordCount};
+use ledger_lines::{Begin, End, FileBefore, Hidden, LaneCount, MOST_LINE_OCTETS};
+use ledger_rules::{AnswerCount, Entry, Gap, Left, Reason, RecordCount, Resumed};
 use libc::{STDERR_FILENO, isatty};
 use rad_realms::Config;
 use std::alloc::{AllocError, Global};
@@ -426,6 +426,8 @@ impl<'a, W: Write> Taken<'a, W> {
             Content::Entry(judged) => take_entry(known, report, place, judged, sum),
             Content::Left(left) => take_left(self.config, known, report, place, left, sum),
             Content::Count(count) => take_count(known, report, place, count, sum),
+            Content::AgainEarlier(count) => take_earlier(known, report, place, count, sum),
+            Content::Resumed(resumed) => take_resumed(known, report, place, resumed, sum),
             Content::End(end) => take_end(known, report, place, end, sum),
             Content::Hidden(hidden) => take_hidden(known, report, place, hidden),
         }
@@ -615,6 +617,40 @@ fn take_count<W: Write>(
     }
 }
 
+/// Takes a count of how often the response of an earlier run was sent again.
+fn take_earlier<W: Write>(
+    known: &mut Known<'_>,
+    report: &mut Report<'_, W>,
+    place: LinePlace<'_>,
+    count: &AnswerCount<'_>,
+    sum: Option<LineSum>,
+) -> Result<(), Fault>
+    ensures { OnOk result ((config : Configuration) → Follow config (content.AgainEarlier count.now) known.old.runs known.new.runs) }
+{
+    pass_line(known, report, place, count.run, sum)?;
+    match known.runs.take_earlier(count) {
+        Some(reason) => report.tell(Finding::Wrong(place, reason)),
+        None => Ok(()),
+    }
+}
+
+/// Takes a request that a lane took over.
+fn take_resumed<W: Write>(
+    known: &mut Known<'_>,
+    report: &mut Report<'_, W>,
+    place: LinePlace<'_>,
+    resumed: &Resumed<'_>,
+    sum: Option<LineSum>,
+) -> Result<(), Fault>
+    ensures { OnOk result ((config : Configuration) → Follow config (content.Resumed resumed.now) known.old.runs known.new.runs) }
+{
+    pass_line(known, report, place, resumed.run, sum)?;
+    match known.runs.take_resumed(resumed) {
+        Some(reason) => report.tell(Finding::Wrong(place, reason)),
+        None => Ok(()),
+    }
+}
+
 fn is_front(front: &[u8], next: &[u8]) -> bool
     ensures { IsTrue result ↔ IsFront front.now next.now }
 {
@@ -758,7 +794,8 @@ fn tell_lane<W: Write>(
     report.tell_some(Finding::of_part(counts))?;
     report.tell_some(Finding::of_fates(name, lane))?;
     report.tell_some(Finding::of_ranges(name, lane))?;
-    report.tell_some(Finding::of_back(name, lane))
+    report.tell_some(Finding::of_back(name, lane))?;
+    report.tell_some(Finding::of_resumed(name, lane))
 }
 
 /// Takes a line that ends a run.
@@ -788,8 +825,25 @@ fn end_lanes<W: Write>(
     for count in end.lanes.iter() {
         let ended = runs.end_lane(end.run, count);
         tell_ended(runs, report, place, end.run, count.lane, ended)?;
+        tell_beyond(runs, report, place, end.run, count)?;
     }
     Ok(())
+}
+
+/// Tells if that line counts less requests of a lane than a line before it of one that the lane took over.
+fn tell_beyond<W: Write>(
+    runs: &Runs,
+    report: &mut Report<'_, W>,
+    place: LinePlace<'_>,
+    run: u64,
+    count: &LaneCount,
+) -> Result<(), Fault> {
+    match runs.lane(run, count.lane) {
+        Some(lane) if lane.is_beyond(count) => {
+            report.tell(Finding::Wrong(place, Reason::UnknownRecord))
+        }
+        _ => Ok(()),
+    }
 }
 
 /// Tells of a gap behind the last entry of a lane, or that its run does not name it.

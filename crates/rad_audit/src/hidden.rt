@@ -30,7 +30,7 @@ impl HiddenLines {
         match kind {
             HiddenKind::Entry => self.entries = self.entries.saturating_add(1),
             HiddenKind::Left => self.left = self.left.saturating_add(1),
-            HiddenKind::Unsent | HiddenKind::Again => {}
+            HiddenKind::Unsent | HiddenKind::Again | HiddenKind::Resumed => {}
         }
     }
 }

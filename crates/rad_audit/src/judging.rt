@@ -10,7 +10,7 @@ ghost use Rattle.rad_audit.specs.Judging.{IsAlone, IsJudged, IsJudgedFrom};
 use crate::chains::LineSum;
 use crate::wording::{LineWords, are_words_of};
 use ledger_lines::{Begin, End, Hidden, Line, LineFault, Room, read_line};
-use ledger_rules::{Entry, Left, Reason, RecordCount, judge};
+use ledger_rules::{AnswerCount, Entry, Left, Reason, RecordCount, Resumed, judge};
 use rad_auth::Secret;
 use rad_realms::{Config, Home};
 use std::alloc::{AllocError, Global};
@@ -45,6 +45,10 @@ pub enum Content<'a> {
     Left(Left<'a>),
     /// It counts what became of a response.
     Count(RecordCount<'a>),
+    /// It counts how often the response of an earlier run was sent again.
+    AgainEarlier(AnswerCount<'a>),
+    /// A lane took over a request that an earlier run left.
+    Resumed(Resumed<'a>),
     End(End<'a>),
     Hidden(Hidden),
 }
@@ -81,6 +85,8 @@ pub fn judge_line<'a>(
         },
         Line::Left(left) => Content::Left(left),
         Line::Unsent(count) | Line::Again(count) => Content::Count(count),
+        Line::AgainEarlier(count) => Content::AgainEarlier(count),
+        Line::Resumed(resumed) => Content::Resumed(resumed),
         Line::End(end) => Content::End(end),
         Line::Hidden(hidden) => Content::Hidden(hidden),
     };

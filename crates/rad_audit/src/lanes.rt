@@ -9,7 +9,10 @@ use crate::shown::Word;
 use crate::taking::{TakenEntry, judge_count, take_entry, take_left};
 use crate::times::Times;
 use ledger_lines::{LaneCount, LaneStart, moment_of};
-use ledger_rules::{Account, EndCounts, Ending, Fates, Gap, Left, Reason, RecordCount, Tally};
+use ledger_rules::{
+    Account, AnswerCount, EndCounts, Ending, Fates, Gap, Left, Reason, RecordCount, Resumed,
+    Resumptions, Tally,
+};
 use rad_auth::Secret;
 use std::alloc::{AllocError, Global};
 
@@ -23,6 +26,8 @@ pub struct Lane {
     pub tally: Tally,
     /// The numbers of these entries and of the requests that were left.
     pub account: Account,
+    /// The requests that it took over from earlier runs, in the lines that are right.
+    pub resumed: Resumptions,
     /// What the end lines say.
     pub ending: Ending,
     /// The moments of these entries.
@@ -37,10 +42,10 @@ pub struct Lane {
 }
 
 impl Lane {
-    ghost use Rattle.std.specs.Prelude.{◌≡◌, not, IfOk, OnOk, option_copied};
+    ghost use Rattle.std.specs.Prelude.{◌≡◌, ◌↔◌, not, IfOk, IsTrue, OnOk, option_copied};
     ghost use Rattle.rad_config.specs.Configuration.{Configuration};
     ghost use Rattle.rad_audit.specs.Judging.{IsJudged};
-    ghost use Rattle.rad_audit.specs.Lanes.{IsFresh, MakesCount, MakesEnd, MakesEntry, MakesLeft, one_more_if, secret_at, standing};
+    ghost use Rattle.rad_audit.specs.Lanes.{IsBeyond, IsFresh, MakesCount, MakesEarlier, MakesEnd, MakesEntry, MakesLeft, MakesResumed, one_more_if, secret_at, standing};
 
     /// Returns a lane without lines.
     ///
@@ -56,6 +61,7 @@ impl Lane {
             home: Word::new(alloc, start.home)?,
             tally: Tally::new(start.serial),
             account: Account::new(alloc),
+            resumed: Resumptions::new(),
             ending: Ending::new(),
             times: Times::new(),
             not_judged: 0,
@@ -118,6 +124,41 @@ impl Lane {
         wrong
     }
 
+    /// Takes a count of how often the response of an earlier run was sent again. Returns what is wrong with it, if anything is:
+    /// that run is not this one.
+    pub fn take_earlier(&mut self, count: &AnswerCount<'_>) -> Option<Reason>
+        ensures number { self.new.number ≡ self.old.number }
+        ensures makes { MakesEarlier count.now (standing self.old) (standing self.new) }
+    {
+        if count.answer_run == count.run {
+            return Some(Reason::UnknownRecord);
+        }
+        self.ending.go_on();
+        None
+    }
+
+    /// Takes a request that it took over. Returns what is wrong with it, if anything is.
+    pub fn take_resumed(&mut self, resumed: &Resumed<'_>) -> Option<Reason>
+        ensures number { self.new.number ≡ self.old.number }
+        ensures makes { MakesResumed resumed.now (standing self.old) (standing self.new) }
+    {
+        let wrong = self.resumed.take(resumed, &self.account);
+        if wrong.is_none() {
+            self.ending.go_on();
+        }
+        wrong
+    }
+
+    /// Whether a line tells of a request taken over that is none of those which an end line counts.
+    pub fn is_beyond(&self, count: &LaneCount) -> bool
+        ensures { IsTrue result ↔ IsBeyond count.now.accepted self.now.resumed.last }
+    {
+        match count.accepted {
+            Some(accepted) => self.resumed.is_beyond(accepted),
+            None => false,
+        }
+    }
+
     /// Takes what an end line counts. Returns the gap behind the last entry, if there is one.
     pub fn end(&mut self, count: &LaneCount) -> Option<Gap>
         ensures number { self.new.number ≡ self.old.number }
@@ -136,7 +177,7 @@ impl Lane {
     fn count_unjudged(&mut self, is_judged: bool)
         ensures counted { self.new.not_judged ≡ one_more_if (not is_judged) self.old.not_judged }
         ensures number { self.new.number ≡ self.old.number }
-        ensures others { (self.new.home ≡ self.old.home) × (self.new.tally ≡ self.old.tally) × (self.new.account ≡ self.old.account) × (self.new.ending ≡ self.old.ending) }
+        ensures others { (self.new.home ≡ self.old.home) × (self.new.tally ≡ self.old.tally) × (self.new.account ≡ self.old.account) × (self.new.resumed ≡ self.old.resumed) × (self.new.ending ≡ self.old.ending) }
     {
         if !is_judged {
             self.not_judged = self.not_judged.saturating_add(1);

@@ -56,6 +56,8 @@ pub enum Finding<'a> {
     Ranges(LaneName<'a>),
     /// The entries of a lane have so many steps back in time. That is no fault.
     Back(LaneName<'a>, u64),
+    /// A lane took over so many requests of earlier runs. That is no fault.
+    Resumed(LaneName<'a>, u64),
     /// Of this run so many lines are left out.
     Hidden(u64, u64),
     /// This run names this file of another run, which was not read.
@@ -175,7 +177,8 @@ impl Findings {
             | Finding::Part(_)
             | Finding::Fates(..)
             | Finding::Ranges(_)
-            | Finding::Back(..) => self,
+            | Finding::Back(..)
+            | Finding::Resumed(..) => self,
         }
     }
 
@@ -269,7 +272,7 @@ impl<'a> LaneCounts<'a> {
 
 impl<'a> Finding<'a> {
     ghost use Rattle.std.specs.Prelude.{◌≡◌, ◌==◌, if◌then◌else◌, None, Some, option_map};
-    ghost use Rattle.rad_audit.specs.declared.printing.Finding.TheVariants.{Back, Fates, Hidden, Part, Ranges, Untied};
+    ghost use Rattle.rad_audit.specs.declared.printing.Finding.TheVariants.{Back, Fates, Hidden, Part, Ranges, Resumed, Untied};
     ghost use Rattle.rad_audit.specs.Statuses.{is_partial};
 
     /// Returns why a lane is only a part, if it is.
@@ -313,6 +316,16 @@ impl<'a> Finding<'a> {
         match lane.times.back() {
             0 => None,
             steps => Some(Finding::Back(name, steps)),
+        }
+    }
+
+    /// Returns how many requests of earlier runs a lane took over, if it did.
+    pub fn of_resumed(name: LaneName<'a>, lane: &Lane) -> Option<Finding<'a>>
+        ensures { result ≡ (if lane.now.resumed.count == 0 then None else Some (Resumed name.entry lane.now.resumed.count)) }
+    {
+        match lane.resumed.count() {
+            0 => None,
+            count => Some(Finding::Resumed(name, count)),
         }
     }
 
@@ -579,6 +592,7 @@ impl fmt::Display for Finding<'_> {
                 let steps = BackSteps(steps);
                 write!(f, "{name} {steps}")
             }
+            Finding::Resumed(name, count) => write!(f, "{name} resumed {count}"),
             Finding::Hidden(run, count) => write!(f, "run {run:016x} hidden {count}"),
             Finding::Before(run, file) => {
                 let name = Shown(file.name());

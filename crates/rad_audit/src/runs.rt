@@ -10,7 +10,7 @@ use crate::lanes::Lane;
 use crate::named_file::NamedFile;
 use crate::taking::{TakenEntry, judge_stray, judge_stray_left};
 use ledger_lines::{Begin, Hidden, LaneCount, LaneStart};
-use ledger_rules::{Gap, Left, Reason, RecordCount};
+use ledger_rules::{AnswerCount, Gap, Left, Reason, RecordCount, Resumed};
 use rad_auth::Secret;
 use std::alloc::{AllocError, Global};
 use std::collections::BTreeMap;
@@ -207,6 +207,30 @@ impl Runs {
         run.take_count(count)
     }
 
+    /// Takes a count of how often the response of an earlier run was sent again. Returns what is wrong with it, if anything is.
+    pub fn take_earlier(&mut self, count: &AnswerCount<'_>) -> Option<Reason>
+        ensures { (config : Configuration) → Follow config (content.AgainEarlier count.now) self.old self.new }
+    {
+        let name = count.run;
+        let Some(run) = self.runs.get_mut(&name) else {
+            return Some(Reason::UnknownLane);
+        };
+        self.last = Some(name);
+        run.take_earlier(count)
+    }
+
+    /// Takes a request that a lane took over. Returns what is wrong with it, if anything is.
+    pub fn take_resumed(&mut self, resumed: &Resumed<'_>) -> Option<Reason>
+        ensures { (config : Configuration) → Follow config (content.Resumed resumed.now) self.old self.new }
+    {
+        let name = resumed.run;
+        let Some(run) = self.runs.get_mut(&name) else {
+            return Some(Reason::UnknownLane);
+        };
+        self.last = Some(name);
+        run.take_resumed(resumed)
+    }
+
     /// Takes that a line ends a run.
     pub fn end(&mut self, name: u64)
         ensures { StandAlike self.old self.new }
@@ -363,6 +387,32 @@ impl Run {
             return Some(Reason::UnknownLane);
         }
         lane.take_count(count)
+    }
+
+    fn take_earlier(&mut self, count: &AnswerCount<'_>) -> Option<Reason>
+        ensures { (config : Configuration) → LanesFollow config count.now.run (content.AgainEarlier count.now) self.old.lanes.items self.new.lanes.items }
+    {
+        let Some(place) = self.place_of(count.lane) else {
+            return Some(Reason::UnknownLane);
+        };
+        let lane = &mut self.lanes[place];
+        if lane.home.as_str() != count.home {
+            return Some(Reason::UnknownLane);
+        }
+        lane.take_earlier(count)
+    }
+
+    fn take_resumed(&mut self, resumed: &Resumed<'_>) -> Option<Reason>
+        ensures { (config : Configuration) → LanesFollow config resumed.now.run (content.Resumed resumed.now) self.old.lanes.items self.new.lanes.items }
+    {
+        let Some(place) = self.place_of(resumed.lane) else {
+            return Some(Reason::UnknownLane);
+        };
+        let lane = &mut self.lanes[place];
+        if lane.home.as_str() != resumed.home {
+            return Some(Reason::UnknownLane);
+        }
+        lane.take_resumed(resumed)
     }
 
     fn end_lane(&mut self, count: &LaneCount) -> Result<Option<Gap>, Reason>

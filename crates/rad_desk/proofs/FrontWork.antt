@@ -352,6 +352,9 @@ module _ (socket : ℕ) (from : Endpoint) (asked : Incoming) (moment lanes : ℕ
 pub hands_none : (was is : Inlet) → SameInlet was is → taken is ≡ taken was → (old new : Option (List Event)) → new ≡ old → Passes (Hands was is) old new
 hands_none was is same took old new none = passes_none (Hands was is) old new (same, inl (took, refl)) none
 
+pub hands_nothing : (inlet : Inlet) (old new : Option (List Event)) → new ≡ old → Passes (Hands inlet inlet) old new
+hands_nothing inlet = hands_none inlet inlet (same_refl inlet) refl
+
 pub hands_one : (was is : Inlet) (outgoing : Outgoing) (octets : List ℕ) → SameInlet was is → taken is ≡ taken was ++ outgoing ∷ [] → AnswersARecord outgoing → octets ≡ outgoing.reply.response → (old new : Option (List Event)) → Passes (IsSent 0 (endpoint outgoing.client outgoing.port) octets) old new → Passes (Hands was is) old new
 hands_one was is outgoing octets same took answers response =
     passes_widen (IsSent 0 (endpoint outgoing.client outgoing.port) octets) (Hands was is)

@@ -1,6 +1,6 @@
 //! The worker of the clients' side.
 
-ghost use Rattle.std.specs.Prelude.{◌≡◌, ◌≤◌, ◌+◌, ◌*◌, ◌↔◌, List, length, IsTrue, MatchBool, option_copied};
+ghost use Rattle.std.specs.Prelude.{◌≡◌, ◌≤◌, ◌+◌, ◌*◌, ◌↔◌, List, length, IsTrue, IfSome, MatchBool, option_copied};
 ghost use Rattle.rad_desk.specs.Handling.{Outcome, IsARequest};
 ghost use Rattle.rad_desk.specs.Calls.{Passes, AreAtMost, IsSent};
 ghost use Rattle.rad_desk.specs.Once.{Terms, Recalls, terms_of, nothing_remembered, WorksInFront, UntilStopped, DoesOrStops, TakesInOnce, ServesOnce, Replies, Hands, Fits};
@@ -10,7 +10,7 @@ ghost use Rattle.rad_desk.specs.Reports.{realm_report};
 
 use crate::gate::{Call, Gate, Repeat, Worker, WorkerReport};
 use crate::handling::{Entrance, Handled, Handling, Outcomes, handle};
-use crate::ledger::{Ledger, NoLedger};
+use crate::ledger::{AcceptedRecord, Earlier, Ledger, NoLedger};
 use crate::marks::count_marks;
 use crate::memory::{Memory, NothingRemembered};
 use crate::shift::{Arrival, Buffers, Shift};
@@ -143,11 +143,14 @@ fn take_in<R: Wait, W: Wire, M: Memory, L: Ledger, E: Entrance, G: Gate>(
     match check_in(config, from.address, from.port, octets) {
         Ok(incoming) => {
             let written = &mut buffers.datagram;
-            if recall(memory, &incoming, written) {
-                send_recalled(shift, &arrival, &incoming, written);
-                return true;
+            match recall(memory, &incoming, written) {
+                Some(answer) => {
+                    tell_recalled(&incoming, answer, ledger);
+                    send_recalled(shift, &arrival, &incoming, written);
+                    true
+                }
+                None => serve(shift, &arrival, &incoming, written, ledger, entrance),
             }
-            serve(shift, &arrival, &incoming, written, ledger, entrance)
         }
         Err(reason) => {
             shift.report(&WorkerReport::Dropped {
@@ -160,14 +163,30 @@ fn take_in<R: Wait, W: Wire, M: Memory, L: Ledger, E: Entrance, G: Gate>(
     }
 }
 
-/// Writes the response that an earlier run gave to a request, if it is remembered, and returns whether it is and fits the
+/// Writes the response that an earlier run gave to a request, if it is remembered, and returns what names it, if it fits the
 /// request.
-fn recall<M: Memory>(memory: &M, incoming: &Incoming<'_>, written: &mut Datagram) -> bool
-    ensures { IsTrue result → Recalls (M.remembered memory.now) incoming.now written.new }
+fn recall<M: Memory>(memory: &M, incoming: &Incoming<'_>, written: &mut Datagram) -> Option<Earlier>
+    ensures { IfSome result (λ _. Recalls (M.remembered memory.now) incoming.now written.new) }
 {
     match incoming {
-        Incoming::Request(request) => memory.recall(request, written) && fits(incoming, written),
-        Incoming::Status(_) => false,
+        Incoming::Request(request) => {
+            let answer = memory.recall(request, written)?;
+            if fits(incoming, written) {
+                Some(answer)
+            } else {
+                None
+            }
+        }
+        Incoming::Status(_) => None,
+    }
+}
+
+/// Tells a ledger of a response that an earlier run gave and that is about to be sent again.
+fn tell_recalled<L: Ledger>(incoming: &Incoming<'_>, answer: Earlier, ledger: &mut L)
+    ensures { L.kept ledger.new ≡ L.kept ledger.old }
+{
+    if let Incoming::Request(request) = incoming {
+        ledger.send_earlier(request.lane(), answer);
     }
 }
 
@@ -284,12 +303,19 @@ fn answer<R, W: Wire, L: Ledger, G: Gate>(
     let Arrival { from, socket, .. } = *arrival;
     let octets = octets_of(incoming);
     match handled {
-        Ok(Handled::Taken(lane, Taken::New(number))) => shift.report(&WorkerReport::Accepted {
-            lane,
-            number,
-            from,
-            octets,
-        }),
+        Ok(Handled::Taken(lane, Taken::New(number))) => {
+            ledger.accept(&AcceptedRecord {
+                lane,
+                number,
+                first: None,
+            });
+            shift.report(&WorkerReport::Accepted {
+                lane,
+                number,
+                from,
+                octets,
+            });
+        }
         Ok(Handled::Taken(_, Taken::Waiting(_))) => shift.report(&WorkerReport::Repeated {
             repeat: Repeat::Waiting,
             from,
@@ -361,7 +387,23 @@ fn hand_out<R, W: Wire, L: Ledger, G: Gate>(
     true
 }
 
+/// Takes a response from an inlet, hands it over and sends it, if the gate says that there may be one.
 fn take<R, W: Wire, L: Ledger, G: Gate>(
+    shift: &mut Shift<'_, R, W, G>,
+    inlet: &mut Inlet,
+    ledger: &mut L,
+)
+    ensures hands { Passes (Hands inlet.old inlet.new) (W.log shift.old.wire.now) (W.log shift.new.wire.now) }
+    ensures taken { KeepsTaken inlet.old inlet.new (W.log shift.old.wire.now) (L.kept ledger.old) (L.kept ledger.new) }
+    ensures keeps { Keeps shift.old shift.new }
+{
+    if !shift.gate.may_have_response(inlet.lane()) {
+        return;
+    }
+    take_next(shift, inlet, ledger);
+}
+
+fn take_next<R, W: Wire, L: Ledger, G: Gate>(
     shift: &mut Shift<'_, R, W, G>,
     inlet: &mut Inlet,
     ledger: &mut L,

@@ -269,6 +269,12 @@ pub trait Gate {
         }
     }
 
+    /// Returns whether a lane may have a response for the front, which otherwise does not look for one. The default is that it
+    /// may.
+    fn may_have_response(&self, _lane: u16) -> bool {
+        true
+    }
+
     /// A worker reports an event. A worker makes no other report; the default passes on the note of it, if it has one.
     fn report(&self, worker: Worker, report: &WorkerReport<'_>) {
         if let Some(note) = report.note() {

@@ -66,7 +66,14 @@ fn endpoint_of(home: &Home) -> Endpoint
 fn is_from(home: &Home, from: Endpoint) -> bool
     ensures { IsTrue result ↔ from ≡ home.now.endpoint }
 {
-    from == endpoint_of(home)
+    is_same(from.address, home.address()) && from.port == home.port()
+}
+
+/// Returns whether two addresses are the same. They are compared as numbers, which takes less time than octet by octet.
+fn is_same(one: [u8; 4], other: [u8; 4]) -> bool
+    ensures { IsTrue result ↔ one ≡ other }
+{
+    u32::from_be_bytes(one) == u32::from_be_bytes(other)
 }
 
 /// Receives once, passes what came from the home server to the lane, and returns whether the worker goes on.
@@ -96,7 +103,7 @@ fn hear<R: Wait, W: Wire, G: Gate>(
         return false;
     }
     let asked = shift.gate.asks(lane);
-    let origin = origin_of_reply(shift, asked, lane, socket, octets);
+    find_origin_of_reply(shift, asked, lane, socket, octets, &mut buffers.origin);
     let now = shift.wire.now();
     let told = shift
         .proxy
@@ -111,11 +118,11 @@ fn hear<R: Wait, W: Wire, G: Gate>(
             shift.report(&WorkerReport::Answered {
                 serial,
                 slot,
-                origin: origin.as_ref(),
+                origin: buffers.origin.as_ref(),
             });
         }
         Ok(Told::ProbeAnswered) => shift.report(&WorkerReport::WentUp(UpReason::ProbeAnswered)),
-        Err(fault) => tell_unheard(shift, fault, octets, origin.as_ref()),
+        Err(fault) => tell_unheard(shift, fault, octets, buffers.origin.as_ref()),
     }
     true
 }
@@ -133,33 +140,54 @@ fn tell_unheard<'b, R, W: Wire, G: Gate>(
     });
 }
 
-/// Returns the origin of the request that is outstanding under the pair that a reply came to, if the gate asks for it.
-fn origin_of_reply<R: Wait, W: Wire, G: Gate>(
+/// Finds the origin of the request that is outstanding under the pair that a reply came to, if the gate asks for it.
+fn find_origin_of_reply<R: Wait, W: Wire, G: Gate>(
     shift: &Shift<'_, R, W, G>,
     asked: Asked,
     lane: u16,
     port: u16,
     octets: &[u8],
-) -> Option<Origin>
+    origin: &mut Option<Origin>,
+)
     requires { lane < shift.now.proxy.now }
 {
-    let identifier = *octets.get(1)?;
-    origin_under(shift, asked, lane, Slot { port, identifier })
+    let slot = match octets.get(1) {
+        Some(&identifier) => Some(Slot { port, identifier }),
+        None => None,
+    };
+    find_origin(shift, asked, lane, slot, origin);
 }
 
-fn origin_under<R: Wait, W: Wire, G: Gate>(
+/// Finds the origin of the request that is outstanding under a pair, if there is a pair and the gate asks for it.
+fn find_origin<R: Wait, W: Wire, G: Gate>(
     shift: &Shift<'_, R, W, G>,
     asked: Asked,
     lane: u16,
-    slot: Slot,
-) -> Option<Origin>
+    slot: Option<Slot>,
+    origin: &mut Option<Origin>,
+)
     requires { lane < shift.now.proxy.now }
 {
-    if asked.origins {
-        shift.proxy.origin(shift.rt, lane, slot)
-    } else {
-        None
+    if asked.origins || origin.is_some() {
+        set_origin(shift, asked, lane, slot, origin);
     }
+}
+
+/// Apart from its caller, so that only this takes room for an origin.
+#[inline(never)]
+fn set_origin<R: Wait, W: Wire, G: Gate>(
+    shift: &Shift<'_, R, W, G>,
+    asked: Asked,
+    lane: u16,
+    slot: Option<Slot>,
+    origin: &mut Option<Origin>,
+)
+    requires { lane < shift.now.proxy.now }
+{
+    *origin = match slot {
+        Some(slot) if asked.origins => shift.proxy.origin(shift.rt, lane, slot),
+        _ => None,
+    };
 }
 
 /// Makes the lane do its next step, sends what that gives, and returns whether the worker goes on.
@@ -191,8 +219,10 @@ fn step<R: Wait, W: Wire, G: Gate>(
         return follow(shift, lane, home, &stepped);
     };
     tell_sending(shift, &stepped.action);
-    let origin = origin_of_sent(shift, asked, lane, &stepped.action);
-    send_home(shift, home, port, &buffers.datagram, origin.as_ref());
+    let sent = slot_of_request(&stepped.action);
+    find_origin(shift, asked, lane, sent, &mut buffers.origin);
+    let origin = buffers.origin.as_ref();
+    send_home(shift, home, port, &buffers.datagram, origin);
     true
 }
 
@@ -205,16 +235,10 @@ fn tell_sending<R, W: Wire, G: Gate>(shift: &Shift<'_, R, W, G>, action: &Action
     }
 }
 
-fn origin_of_sent<R: Wait, W: Wire, G: Gate>(
-    shift: &Shift<'_, R, W, G>,
-    asked: Asked,
-    lane: u16,
-    action: &Action,
-) -> Option<Origin>
-    requires { lane < shift.now.proxy.now }
-{
+/// Returns the pair under which a step sent a request, if it did.
+fn slot_of_request(action: &Action) -> Option<Slot> {
     match *action {
-        Action::Sent(_, slot) | Action::Resent(_, slot) => origin_under(shift, asked, lane, slot),
+        Action::Sent(_, slot) | Action::Resent(_, slot) => Some(slot),
         Action::Probed(_) | Action::WentDown | Action::WentUp | Action::Idle(_) => None,
     }
 }
@@ -228,9 +252,17 @@ fn tell_standing<R: Wait, W: Wire, G: Gate>(
     requires { lane < shift.now.proxy.now }
 {
     if asked.standing {
-        let standing = shift.proxy.standing(shift.rt, lane);
-        shift.report(&WorkerReport::Stands { moment, standing });
+        report_standing(shift, lane, moment);
     }
+}
+
+/// Apart from its caller, so that only this takes room for a standing.
+#[inline(never)]
+fn report_standing<R: Wait, W: Wire, G: Gate>(shift: &Shift<'_, R, W, G>, lane: u16, moment: Moment)
+    requires { lane < shift.now.proxy.now }
+{
+    let standing = shift.proxy.standing(shift.rt, lane);
+    shift.report(&WorkerReport::Stands { moment, standing });
 }
 
 fn port_of(action: &Action) -> Option<u16>

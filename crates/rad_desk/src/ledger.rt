@@ -10,6 +10,28 @@ use crate::wire::Wire;
 use rad_lane::{Counts, LeftState, Outgoing};
 use std::marker::Model;
 
+/// What names a record, or a response, of an earlier run.
+#[derive(Clone, Copy, Debug, PartialEq, Eq, PartialOrd, Ord)]
+pub struct Earlier {
+    /// The name of the run.
+    pub run: u64,
+    /// The number of the lane there.
+    pub lane: u16,
+    /// The number of the record in that lane, or the serial of the response.
+    pub number: u64,
+}
+
+/// A request that a lane took as new.
+#[derive(Clone, Copy, Debug, PartialEq, Eq)]
+pub struct AcceptedRecord {
+    /// The lane's number.
+    pub lane: u16,
+    /// The request's number in its lane.
+    pub number: u64,
+    /// What names its first acceptance, if an earlier run left it.
+    pub first: Option<Earlier>,
+}
+
 /// What keeps evidence of the responses that are handed over to it, and of the requests that are left at the end.
 ///
 /// Contracts may see a ledger as the list of the responses that it was given so far, in order, each with all that had
@@ -25,6 +47,11 @@ pub trait Ledger {
         ensures { kept self.new ≡ kept self.old }
     {}
 
+    /// A lane took a request as new. The front knows of none which run accepted it first. It must not wait for anything.
+    fn accept(&mut self, _accepted: &AcceptedRecord)
+        ensures { kept self.new ≡ kept self.old }
+    {}
+
     /// Keeps a response, which it is lent, before it is sent over the wire. It must not wait for anything. The mark, the
     /// last attribute of the sending that the response holds, tells which lane the response is of, and the number of its
     /// request. Only contracts look at the wire.
@@ -35,6 +62,12 @@ pub trait Ledger {
     /// request. It must not wait for anything.
     fn send_again(&mut self, lane: u16, number: u64, response: &[u8])
         ensures { kept self.new ≡ kept self.old };
+
+    /// The response that an earlier run gave is about to be sent again, to a client that repeated its request. That leads to
+    /// this lane. It must not wait for anything.
+    fn send_earlier(&mut self, _lane: u16, _answer: Earlier)
+        ensures { kept self.new ≡ kept self.old }
+    {}
 
     /// Keeps a request that is left, which it is lent. No response comes any more, so it may wait.
     fn leave(&mut self, told: &LeftRecord<'_>)
@@ -75,6 +108,12 @@ impl<L: Ledger> Ledger for Option<L> {
         }
     }
 
+    fn accept(&mut self, accepted: &AcceptedRecord) {
+        if let Some(ledger) = self {
+            ledger.accept(accepted);
+        }
+    }
+
     fn keep<W: Wire>(&mut self, outgoing: &Outgoing, wire: &W) {
         if let Some(ledger) = self {
             ledger.keep(outgoing, wire);
@@ -84,6 +123,12 @@ impl<L: Ledger> Ledger for Option<L> {
     fn send_again(&mut self, lane: u16, number: u64, response: &[u8]) {
         if let Some(ledger) = self {
             ledger.send_again(lane, number, response);
+        }
+    }
+
+    fn send_earlier(&mut self, lane: u16, answer: Earlier) {
+        if let Some(ledger) = self {
+            ledger.send_earlier(lane, answer);
         }
     }
 

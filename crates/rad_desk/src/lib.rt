@@ -32,7 +32,7 @@ pub use gate::{Asked, Call, Gate, Go, Note, Repeat, UpReason, Worker, WorkerRepo
 pub use handling::{Entrance, Handled, Handling, Outcomes};
 pub use lanes::lane_worker;
 pub use leaving::{LeftRecord, tell_left};
-pub use ledger::{Handed, Ledger, LeftList, NoLedger};
+pub use ledger::{AcceptedRecord, Earlier, Handed, Ledger, LeftList, NoLedger};
 pub use locked_lanes::{
     CloseFault, DeskFault, Inlet, LaneEnd, OpenFault, Origin, Proxy, Report, Rest, Session, Spent,
     Standing, Stepped, Told, open,

@@ -32,6 +32,8 @@ pub(crate) struct Buffers {
     pub(crate) octets: [u8; 4096],
     /// What is to be sent.
     pub(crate) datagram: Datagram,
+    /// The origin of the request that the worker reports of, if the gate asks for it.
+    pub(crate) origin: Option<Origin>,
 }
 
 impl Buffers {
@@ -39,6 +41,7 @@ impl Buffers {
         Buffers {
             octets: [0; 4096],
             datagram: Datagram::new(),
+            origin: None,
         }
     }
 }

@@ -6,7 +6,7 @@ use crate::event_log::EventLog;
 use crate::lines::{ClientText, OthersLine, state_word};
 use crate::packet_words::KeyWord;
 use crate::workers::worker_name;
-use rad_desk::{Ledger, LeftRecord, Wire, Worker, status_of};
+use rad_desk::{AcceptedRecord, Earlier, Ledger, LeftRecord, Wire, Worker, status_of};
 use rad_lane::{Counts, Outgoing, session_of};
 use rad_log::{Level, Log, WaitForRoom, logs_at, tell, tell_reason};
 use rad_metrics::worker_row;
@@ -42,12 +42,20 @@ impl<L: Log + WaitForRoom, R: Clock + Wait, K: Ledger + Drop> Ledger for LeftLog
         self.ledger.begin();
     }
 
+    fn accept(&mut self, accepted: &AcceptedRecord) {
+        self.ledger.accept(accepted);
+    }
+
     fn keep<W: Wire>(&mut self, outgoing: &Outgoing, wire: &W) {
         self.ledger.keep(outgoing, wire);
     }
 
     fn send_again(&mut self, lane: u16, number: u64, response: &[u8]) {
         self.ledger.send_again(lane, number, response);
+    }
+
+    fn send_earlier(&mut self, lane: u16, answer: Earlier) {
+        self.ledger.send_earlier(lane, answer);
     }
 
     fn leave(&mut self, told: &LeftRecord<'_>) {

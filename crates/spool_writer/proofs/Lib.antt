@@ -2,3 +2,4 @@ mod Accounts
 mod Merging
 pub mod KeysOfWaiting
 pub mod HoldsWaiting
+pub mod Settling

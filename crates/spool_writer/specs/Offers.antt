@@ -1,5 +1,5 @@
 -- Which datagrams have to wait behind requests that wait, of earlier runs first (own).
-use Rattle.std.specs.Prelude.{◌≡◌, ◌⊎◌, ◌==◌, not, ℕ, Bool, true, false, List, [], ◌∷◌, Option, Some, None, is_some, length, min, take, drop, ◌++◌, IsTrue}
+use Rattle.std.specs.Prelude.{◌≡◌, ◌⊎◌, ◌==◌, not, ℕ, Bool, true, false, List, [], ◌∷◌, Option, Some, None, is_some, length, min, take, drop, IsTrue, if◌then◌else◌}
 use Rattle.std.specs.List.{slice_get}
 use Rattle.std.specs.FinMap as map
 use Rattle.rad_tables.specs.declared.duplicates.Key.{Key}
@@ -14,6 +14,8 @@ use Rattle.rad_realms.specs.Incoming.{Takes}
 use Rattle.rad_realms.specs.declared.checking.Dropped.{Dropped}
 use Rattle.rad_realms.specs.declared.checking.Incoming.TheVariants as incoming
 use Rattle.spool_writer.specs.declared.waiting_keys.WaitingRequest.{WaitingRequest}
+use Rattle.spool_writer.specs.declared.offer_notes.Fate.{Fate}
+use Rattle.spool_writer.specs.declared.offer_notes.Fate.TheVariants as fate
 use Rattle.spool_writer.specs.declared.offers.LaneOffers.{LaneOffers}
 
 abbrev pub first_of : List WaitingRequest → Option WaitingRequest
@@ -81,3 +83,23 @@ pub record IsFirstOf (lanes : Option (List LaneOffers)) (lane : ℕ) (datagram :
   pub request : WaitingRequest
   pub first : first_in lanes lane ≡ Some request
   pub given : IsGivenAs request datagram received
+
+-- The requests that wait for a lane, in their order.
+abbrev pub waiting_in : Option (List LaneOffers) → ℕ → List WaitingRequest
+waiting_in None lane = []
+waiting_in (Some lanes) lane = waiting_for lanes lane
+
+-- A lane is done with a request of which this became: it has it, or does not take it for another reason than want of room.
+abbrev pub is_done_with : Fate → Bool
+is_done_with fate.Taken = true
+is_done_with fate.Known = true
+is_done_with fate.Over = true
+is_done_with fate.QueueFull = false
+is_done_with fate.BookFull = false
+is_done_with fate.NoMemory = false
+is_done_with fate.Drained = false
+
+-- The first request of a lane waits no more if the lane is done with it. All others wait on, in their order.
+pub record Settles (fate : Fate) (lane : ℕ) (old new : Option (List LaneOffers)) : Type 0 where
+  pub its : waiting_in new lane ≡ (if is_done_with fate then drop 1 (waiting_in old lane) else waiting_in old lane)
+  pub others : (other : ℕ) → ¬ (other ≡ lane) → waiting_in new other ≡ waiting_in old other

@@ -1,5 +1,5 @@
 -- What passes from the front to the thread that writes a spool. Own.
-use Rattle.std.specs.Prelude.{◌≡◌, ℕ, List, [], ◌∷◌, Result, Ok, Err}
+use Rattle.std.specs.Prelude.{◌≡◌, ℕ, List, [], ◌∷◌, ◌++◌, Result, Ok, Err}
 use Rattle.rad_packet.specs.Packet.{identifier_of, authenticator_of}
 use Rattle.rad_auth.specs.Mark.{EndsWithMark}
 use Rattle.rad_tables.specs.declared.duplicates.Key.{Key}
@@ -14,6 +14,7 @@ use Rattle.rad_desk.specs.declared.handling.Handled.{Handled}
 use Rattle.rad_desk.specs.declared.handling.Handled.TheVariants as handled
 use Rattle.spool_files.specs.declared.entry.Came.{Came}
 use Rattle.spool_files.specs.declared.entry.Answered.{Answered}
+use Rattle.spool_files.specs.declared.entry.Head.{Head}
 use Rattle.spool_files.specs.declared.entry.Head.TheVariants as heads
 use Rattle.spool_writer.specs.declared.parcel.Parcel.{Parcel}
 
@@ -59,3 +60,10 @@ pub record IsAnsweredOf (outgoing : Outgoing) (parcel : Parcel) : Type 0 where
   pub mark : EndsWithMark (record { lane = answered.lane; number = number }) outgoing.reply.sending
   pub serial : answered.serial ≡ outgoing.serial
   pub octets : parcel.octets ≡ outgoing.reply.response
+
+-- The parcel of an entry that has this text was put into a ring, behind those before it.
+pub record IsPutInto (its : Head) (text : List ℕ) (old new : List Parcel) : Type 0 where
+  pub parcel : Parcel
+  pub head : parcel.head ≡ its
+  pub octets : parcel.octets ≡ text
+  pub put : new ≡ old ++ parcel ∷ []

@@ -2,16 +2,16 @@
 
 ghost use Rattle.std.specs.Prelude.{◌≡◌, Some, IfSome, IsTrue};
 ghost use Rattle.rad_lane.specs.Accepts.{request_key};
-ghost use Rattle.spool_writer.specs.Earlier.{response_of};
+ghost use Rattle.spool_writer.specs.Earlier.{answer_of, name_of as the_name_of, name_of_answer, response_of};
 
 use crate::opening::greatest_span;
 use crate::parcel::Parcel;
 use crate::wall_clock::time_since_1970;
-use rad_desk::Memory;
+use rad_desk::{Earlier, Memory};
 use rad_packet::{Datagram, read};
 use rad_realms::{Checked, Config};
 use rad_tables::Duplicates;
-use spool_files::RememberedAnswer;
+use spool_files::{Answered, RememberedAnswer};
 use std::alloc::{AllocError, Global};
 use std::sync::atomic::{AtomicU64, Ordering};
 use std::time::Clock;
@@ -57,7 +57,7 @@ impl<'a, R: Clock> EarlierAnswers<'a, R> {
 
     /// Returns the response that an earlier run gave to a request of this key within the span of its lane.
     fn find(&self, request: &Checked<'_>) -> Option<&RememberedAnswer>
-        ensures { IfSome result (λ answer. response_of self.now.places self.now.answers.items (request_key request.now) ≡ Some answer.now.octets.items) }
+        ensures { IfSome result (λ answer. answer_of self.now.places self.now.answers.items (request_key request.now) ≡ Some answer.now) }
     {
         let place = self.places.find(&Parcel::key_of(request))?;
         let answer = self.answers.get(usize::try_from(place).ok()?)?;
@@ -97,6 +97,23 @@ impl<'a, R: Clock> EarlierAnswers<'a, R> {
     }
 }
 
+/// Returns what names an answer: the run that gave it, and its lane and serial there.
+fn name_of(answer: &RememberedAnswer) -> Earlier
+    ensures { result ≡ name_of_answer answer.now }
+{
+    let Answered {
+        run,
+        lane,
+        serial,
+        ..
+    } = answer.answered;
+    Earlier {
+        run,
+        lane,
+        number: serial,
+    }
+}
+
 /// Writes a response, and returns whether it is a packet.
 fn write(answer: &RememberedAnswer, written: &mut Datagram) -> bool
     ensures { IsTrue result → written.new ≡ answer.now.octets.items }
@@ -114,16 +131,20 @@ fn write(answer: &RememberedAnswer, written: &mut Datagram) -> bool
 impl<R: Clock> Memory for EarlierAnswers<'_, R> {
     ghost remembered = { λ earlier. response_of earlier.places earlier.answers.items };
 
-    fn recall(&self, request: &Checked<'_>, written: &mut Datagram) -> bool {
+    ghost named = { λ earlier. the_name_of earlier.places earlier.answers.items };
+
+    fn recall(&self, request: &Checked<'_>, written: &mut Datagram) -> Option<Earlier> {
         if self.is_over.load(Ordering::SeqCst) != 0 {
-            return false;
+            return None;
         }
-        match self.find(request) {
-            Some(answer) => write(answer, written),
-            None => {
-                self.see_end();
-                false
-            }
+        let Some(answer) = self.find(request) else {
+            self.see_end();
+            return None;
+        };
+        if write(answer, written) {
+            Some(name_of(answer))
+        } else {
+            None
         }
     }
 }

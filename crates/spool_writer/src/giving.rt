@@ -1,10 +1,10 @@
 //! The front's ends of the two rings, with what was told and handed over.
 
-ghost use Rattle.std.specs.Prelude.{◌≡◌, ◌∷◌, ◌++◌, [], ⊤, MatchBool, MatchOption, IfSome};
+ghost use Rattle.std.specs.Prelude.{◌≡◌, ◌∷◌, ◌++◌, [], ⊤, false, IsTrue, MatchBool, MatchOption, IfSome};
 ghost use Rattle.rtrb.specs.Ring.{sent};
 ghost use Rattle.rad_desk.specs.Handling.{outcome_of};
 ghost use Rattle.rad_desk.specs.HandOver.{handed_at};
-ghost use Rattle.spool_writer.specs.Parcels.{IsAnsweredOf, IsCameOf, New, news_of};
+ghost use Rattle.spool_writer.specs.Parcels.{IsAnsweredOf, IsCameOf, IsPutInto, New, news_of};
 
 use crate::parcel::Parcel;
 use crate::room::wait_for_room;
@@ -13,9 +13,10 @@ use rad_desk::{Handed, Handling, Outcomes, Wire};
 use rad_lane::Outgoing;
 use rad_realms::Incoming;
 use rtrb::Producer;
+use spool_files::{Answered, Came, Head};
 use std::alloc::Global;
 use std::marker::Model;
-use std::sync::Wait;
+use std::sync::Arc;
 use std::time::Clock;
 
 /// The end of the ring of requests, with the list of what the front was told.
@@ -61,7 +62,7 @@ impl RequestGiver {
     }
 
     /// Waits for room as [`wait_for_room`] does.
-    pub(crate) fn wait<R: Clock + Wait>(&mut self, clock: &R, state: &SpoolState)
+    pub(crate) fn wait<R: Clock>(&mut self, clock: &R, state: &SpoolState)
         ensures { self.new ≡ self.old }
     {
         wait_for_room(&mut self.ring, clock, state);
@@ -125,7 +126,7 @@ impl ResponseGiver {
     }
 
     /// Waits for room as [`wait_for_room`] does.
-    pub(crate) fn wait<R: Clock + Wait>(&mut self, clock: &R, state: &SpoolState)
+    pub(crate) fn wait<R: Clock>(&mut self, clock: &R, state: &SpoolState)
         ensures { self.new ≡ self.old }
     {
         wait_for_room(&mut self.ring, clock, state);
@@ -152,4 +153,105 @@ impl ResponseGiver {
         self.ring.push_reserved(parcel);
         true
     }
+}
+
+/// The ends of the rings of a writer that has no front, into which entries are put one by one.
+#[derive(Drop)]
+pub struct EntryGiver {
+    alloc: Global,
+    requests: Producer<Parcel, Global>,
+    responses: Producer<Parcel, Global>,
+    state: Arc<SpoolState>,
+}
+
+impl EntryGiver {
+    ghost use Rattle.spool_files.specs.declared.entry.Head.TheVariants as heads;
+
+    /// Makes the ends of these rings.
+    pub(crate) fn new(
+        alloc: Global,
+        requests: Producer<Parcel, Global>,
+        responses: Producer<Parcel, Global>,
+        state: Arc<SpoolState>,
+    ) -> EntryGiver
+        ensures { (result.requests ≡ requests) × (result.responses ≡ responses) }
+    {
+        EntryGiver {
+            alloc,
+            requests,
+            responses,
+            state,
+        }
+    }
+
+    /// Puts the entry of a request with this text into the ring of requests, and returns whether it did. It does not if the text is
+    /// too short or too long for a request, if memory is refused, or if there is no room. Then the request is counted as lost.
+    pub fn give_request(&mut self, came: Came, text: &[u8]) -> bool
+        ensures put { IsTrue result → IsPutInto (heads.Came came) text.now (sent self.old.requests) (sent self.new.requests) }
+        ensures same { result ≡ false → sent self.new.requests ≡ sent self.old.requests }
+        ensures others { sent self.new.responses ≡ sent self.old.responses }
+    {
+        if self.put_request(Head::Came(came), text) {
+            self.state.count_put();
+            return true;
+        }
+        self.state.count_lost_request();
+        false
+    }
+
+    fn put_request(&mut self, head: Head, text: &[u8]) -> bool
+        ensures put { IsTrue result → IsPutInto head text.now (sent self.old.requests) (sent self.new.requests) }
+        ensures same { result ≡ false → sent self.new.requests ≡ sent self.old.requests }
+        ensures others { sent self.new.responses ≡ sent self.old.responses }
+    {
+        put_entry_into(&mut self.requests, self.alloc, head, text, self.state.put())
+    }
+
+    /// Puts the entry of a response into the ring of responses as [`EntryGiver::give_request`] does.
+    pub fn give_answer(&mut self, answered: Answered, text: &[u8]) -> bool
+        ensures put { IsTrue result → IsPutInto (heads.Answered answered) text.now (sent self.old.responses) (sent self.new.responses) }
+        ensures same { result ≡ false → sent self.new.responses ≡ sent self.old.responses }
+        ensures others { sent self.new.requests ≡ sent self.old.requests }
+    {
+        if self.put_answer(Head::Answered(answered), text) {
+            return true;
+        }
+        self.state.count_lost_response();
+        false
+    }
+
+    fn put_answer(&mut self, head: Head, text: &[u8]) -> bool
+        ensures put { IsTrue result → IsPutInto head text.now (sent self.old.responses) (sent self.new.responses) }
+        ensures same { result ≡ false → sent self.new.responses ≡ sent self.old.responses }
+        ensures others { sent self.new.requests ≡ sent self.old.requests }
+    {
+        put_entry_into(
+            &mut self.responses,
+            self.alloc,
+            head,
+            text,
+            self.state.put(),
+        )
+    }
+}
+
+/// Puts the parcel of an entry into a ring, if it has such a text, memory is had for it, and there is room.
+fn put_entry_into(
+    ring: &mut Producer<Parcel, Global>,
+    alloc: Global,
+    head: Head,
+    text: &[u8],
+    before: u64,
+) -> bool
+    ensures put { IsTrue result → IsPutInto head text.now (sent ring.old) (sent ring.new) }
+    ensures same { result ≡ false → sent ring.new ≡ sent ring.old }
+{
+    let Some(parcel) = Parcel::of_entry(alloc, head, text, before) else {
+        return false;
+    };
+    if ring.is_full() {
+        return false;
+    }
+    ring.push_reserved(parcel);
+    true
 }

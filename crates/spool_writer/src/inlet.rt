@@ -10,12 +10,12 @@ use crate::offer_notes::OfferNotes;
 use crate::parcel::{NewRecord, Parcel, Putting};
 use crate::state::SpoolState;
 use crate::wall_clock::time_since_1970;
-use rad_desk::{Entrance, Handled, Handling, Ledger, LeftRecord, Wire};
+use rad_desk::{AcceptedRecord, Earlier, Entrance, Handled, Handling, Ledger, LeftRecord, Wire};
 use rad_lane::{Counts, Outgoing, Taken};
 use rad_realms::{Checked, Incoming};
 use spool_files::LocalAddress;
 use std::alloc::Global;
-use std::sync::{Arc, Wait};
+use std::sync::Arc;
 use std::thread;
 use std::time::{Clock, Duration, Instant};
 
@@ -59,7 +59,7 @@ fn new_request<'a, 'b>(
     }
 }
 
-impl<R: Clock + Wait> SpoolInlet<'_, R> {
+impl<R: Clock> SpoolInlet<'_, R> {
     /// Returns the address that this socket has.
     fn address(&self, socket: u16) -> LocalAddress {
         match self.ours.get(usize::from(socket)) {
@@ -109,7 +109,7 @@ impl<R: Clock + Wait> SpoolInlet<'_, R> {
     }
 }
 
-impl<R: Clock + Wait> Entrance for SpoolInlet<'_, R> {
+impl<R: Clock> Entrance for SpoolInlet<'_, R> {
     ghost outcomes = { λ inlet. inlet.giver.outcomes };
 
     fn tell(&mut self, socket: u16, asked: &Incoming<'_>, handling: &Handling) {
@@ -153,7 +153,7 @@ pub struct ResponseInlet<'a, R> {
     pub(crate) state: Arc<SpoolState>,
 }
 
-impl<R: Clock + Wait> ResponseInlet<'_, R> {
+impl<R: Clock> ResponseInlet<'_, R> {
     /// Makes the parcel of a response, unless memory is refused.
     fn parcel(&mut self, outgoing: &Outgoing) -> Option<Parcel>
         ensures parcel { MatchOption result ⊤ (IsAnsweredOf outgoing.now) }
@@ -191,7 +191,7 @@ impl<'a, R, L: Drop> SpoolLedger<'a, R, L> {
     }
 }
 
-impl<R: Clock + Wait> ResponseInlet<'_, R> {
+impl<R: Clock> ResponseInlet<'_, R> {
     /// Returns what is known of the requests that are left once one more is told. It waits until all are on disk, ten seconds at most
     /// from the first one on, unless one found no room or the disk fails: then that can't be said.
     fn wait_for_left(&self, left: LeftWait) -> LeftWait {
@@ -220,7 +220,7 @@ impl LeftWait {
 
 /// Waits until all requests are on disk that were put before the thread had ended so many rounds, and returns whether they are.
 /// The time counts from this moment; if that is not known, nothing waits.
-fn wait_for_all<R: Clock + Wait>(
+fn wait_for_all<R: Clock>(
     clock: &R,
     state: &SpoolState,
     since: Option<Instant>,
@@ -249,13 +249,18 @@ fn is_over<R: Clock>(clock: &R, since: Option<Instant>) -> bool {
     }
 }
 
-impl<R: Clock + Wait, L: Ledger + Drop> Ledger for SpoolLedger<'_, R, L> {
+impl<R: Clock, L: Ledger + Drop> Ledger for SpoolLedger<'_, R, L> {
     ghost kept = { λ spool. L.kept spool.ledger };
 
     ghost left = { λ spool. L.left spool.ledger };
 
     fn begin(&mut self) {
         self.ledger.begin();
+    }
+
+    fn accept(&mut self, accepted: &AcceptedRecord) {
+        let first = self.outlet.state.notes().take_first();
+        self.ledger.accept(&AcceptedRecord { first, ..*accepted });
     }
 
     fn keep<W: Wire>(&mut self, outgoing: &Outgoing, wire: &W) {
@@ -265,6 +270,10 @@ impl<R: Clock + Wait, L: Ledger + Drop> Ledger for SpoolLedger<'_, R, L> {
 
     fn send_again(&mut self, lane: u16, number: u64, response: &[u8]) {
         self.ledger.send_again(lane, number, response);
+    }
+
+    fn send_earlier(&mut self, lane: u16, answer: Earlier) {
+        self.ledger.send_earlier(lane, answer);
     }
 
     fn leave(&mut self, told: &LeftRecord<'_>) {

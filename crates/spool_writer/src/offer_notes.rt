@@ -1,6 +1,6 @@
 //! What became of the request that was given last, and how many places became free in each lane.
 
-use rad_desk::{Handled, Worker, WorkerReport};
+use rad_desk::{Earlier, Handled, Worker, WorkerReport};
 use rad_lane::{Refusal, Taken};
 use rad_tables::Key;
 use std::alloc::{AllocError, Global};
@@ -37,6 +37,16 @@ const FATES: &[Fate] = &[
 ];
 
 impl Fate {
+    ghost use Rattle.std.specs.Prelude.{◌≡◌};
+    ghost use Rattle.spool_writer.specs.Offers.{is_done_with};
+
+    /// Returns whether a lane is done with a request of which this became.
+    pub(crate) fn is_done(self) -> bool
+        ensures { result ≡ is_done_with self }
+    {
+        matches!(self, Fate::Taken | Fate::Known | Fate::Over)
+    }
+
     /// Returns what this outcome says of a request.
     fn of(outcome: Result<Handled, Refusal>) -> Fate {
         match outcome {
@@ -66,6 +76,16 @@ struct FreedPlaces {
     book: AtomicU64,
 }
 
+/// What names the first acceptance of a request.
+#[derive(Drop)]
+struct FirstNote {
+    /// 1 if a request is noted.
+    is_noted: AtomicU64,
+    run: AtomicU64,
+    lane: AtomicU64,
+    number: AtomicU64,
+}
+
 /// What the front and the workers of the lanes note for [`crate::Offers`].
 #[derive(Drop)]
 pub struct OfferNotes {
@@ -73,6 +93,8 @@ pub struct OfferNotes {
     waiting: AtomicU64,
     /// The place of the fate of the datagram that was handled last.
     fate: AtomicU64,
+    /// What names the first acceptance of the request that was given last, if that was in an earlier run and no lane took it yet.
+    first: FirstNote,
     /// How many places became free in each lane while requests waited.
     freed: Vec<FreedPlaces>,
     /// How many datagrams had to wait.
@@ -102,6 +124,12 @@ impl OfferNotes {
         Ok(OfferNotes {
             waiting: AtomicU64::new(0),
             fate: AtomicU64::new(0),
+            first: FirstNote {
+                is_noted: AtomicU64::new(0),
+                run: AtomicU64::new(0),
+                lane: AtomicU64::new(0),
+                number: AtomicU64::new(0),
+            },
             freed,
             held: AtomicU64::new(0),
             answered,
@@ -118,9 +146,29 @@ impl OfferNotes {
         self.waiting.load(Ordering::SeqCst)
     }
 
-    /// Forgets what became of the datagram before.
-    pub(crate) fn begin(&self) {
+    /// Forgets what became of the datagram before, since a request is given. An earlier run accepted that first, if so.
+    pub(crate) fn begin(&self, first: Option<Earlier>) {
         self.note(Fate::Over);
+        if let Some(Earlier { run, lane, number }) = first {
+            self.first.run.store(run, Ordering::SeqCst);
+            self.first.lane.store(u64::from(lane), Ordering::SeqCst);
+            self.first.number.store(number, Ordering::SeqCst);
+            self.first.is_noted.store(1, Ordering::SeqCst);
+        }
+    }
+
+    /// Takes what names the first acceptance of the request that was given last, if that was in an earlier run.
+    pub(crate) fn take_first(&self) -> Option<Earlier> {
+        if self.first.is_noted.load(Ordering::SeqCst) == 0 {
+            return None;
+        }
+        self.first.is_noted.store(0, Ordering::SeqCst);
+        let lane = self.first.lane.load(Ordering::SeqCst);
+        Some(Earlier {
+            run: self.first.run.load(Ordering::SeqCst),
+            lane: u16::try_from(lane).ok()?,
+            number: self.first.number.load(Ordering::SeqCst),
+        })
     }
 
     fn note(&self, fate: Fate) {

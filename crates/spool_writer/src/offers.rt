@@ -4,7 +4,7 @@ ghost use Rattle.std.specs.Prelude.{◌≡◌, ◌↔◌, ◌<◌, ◌∷◌, �
 ghost use Rattle.rad_desk.specs.Resuming.{is_held};
 ghost use Rattle.rad_lane.specs.Accepts.{request_key};
 ghost use Rattle.rad_desk.specs.Traffic.{FitsRoom};
-ghost use Rattle.spool_writer.specs.Offers.{Waits, RequestWaits, HasWaiting, BecomesFor, IsFirstOf, IsGivenAs, first_in, is_taken, number_at, waiting_at, waiting_for};
+ghost use Rattle.spool_writer.specs.Offers.{Waits, RequestWaits, HasWaiting, BecomesFor, IsFirstOf, IsGivenAs, Settles, first_in, is_taken, number_at, waiting_at, waiting_for};
 
 use crate::offer_notes::{Fate, Freed, OfferNotes};
 use crate::parcel::Parcel;
@@ -101,26 +101,15 @@ impl<'a, R: Clock> Offers<'a, R> {
         requests: Vec<OpenRequest>,
         notes: Arc<OfferNotes>,
     ) -> Result<(Offers<'a, R>, Vec<Unfit>), AllocError> {
-        let mut lanes = no_offers(alloc, config.homes().len())?;
-        let mut keys = WaitingKeys::new(alloc, config)?;
-        let mut unfit = Vec::new(alloc);
+        let mut sorted = SortedRequests::new(alloc, config, notes.answered())?;
         for request in requests {
-            match lane_of(config, &request) {
-                Ok(lane) => {
-                    keys.add(&request.came.key)?;
-                    push(&mut lanes, lane, waiting_request(request))?;
-                }
-                Err(reason) => unfit.push(Unfit {
-                    came: request.came,
-                    reason,
-                })?,
-            }
+            sorted.add(config, request)?;
         }
+        let SortedRequests { lanes, keys, unfit } = sorted;
+        let mut keys = keys;
         let is_done = are_done(&lanes);
-        if !is_done {
-            for key in notes.answered() {
-                keys.add_answered(key)?;
-            }
+        if is_done {
+            keys.clear();
         }
         notes.set_waiting(keys.count());
         Ok((
@@ -139,26 +128,31 @@ impl<'a, R: Clock> Offers<'a, R> {
         ))
     }
 
-    /// Takes away the request that was given last, unless its lane had no room for it.
+    /// Settles the request that was given last by what became of it, if one was given.
     fn settle(&mut self)
         ensures { self.new.traffic ≡ self.old.traffic }
     {
-        let Some(given) = self.given else {
-            return;
-        };
-        self.given = None;
-        let fate = self.notes.fate();
+        if let Some(given) = self.given {
+            self.given = None;
+            let _ = self.notes.take_first();
+            let fate = self.notes.fate();
+            self.settle_as(given, fate);
+        }
+    }
+
+    /// Takes away the request that was given last, of which this became, unless its lane had no room for it. Then the lane is left
+    /// alone.
+    #[tactic(auto, using(crate::proofs::Settling::settles_nothing, crate::proofs::Settling::settles_all))]
+    fn settle_as(&mut self, given: Given, fate: Fate)
+        ensures settles { Settles fate given.lane (option_map (λ lanes. lanes.items) self.old.lanes) (option_map (λ lanes. lanes.items) self.new.lanes) }
+        ensures given { self.new.traffic ≡ self.old.traffic }
+    {
         let pause = self.pause_of(given, fate);
         let Some(lanes) = &mut self.lanes else {
             return;
         };
-        match pause {
-            Some(pause) => pause_lane(lanes, given.lane, pause),
-            None => {
-                if let Some(request) = take_first(lanes, given.lane, fate) {
-                    self.keys.leave(given.lane, &request, fate != Fate::Over);
-                }
-            }
+        if let Some(request) = settle_first(lanes, given.lane, fate, pause) {
+            self.keys.leave(given.lane, &request, fate != Fate::Over);
         }
         self.notes.set_waiting(self.keys.count());
         if are_done(lanes) {
@@ -167,14 +161,14 @@ impl<'a, R: Clock> Offers<'a, R> {
         }
     }
 
-    /// Returns until when a lane is to be left alone, if it had no room for the request that was given last.
-    fn pause_of(&self, given: Given, fate: Fate) -> Option<Pause> {
+    /// Returns until when a lane is to be left alone of whose request this became.
+    fn pause_of(&self, given: Given, fate: Fate) -> Pause {
         match fate {
-            Fate::Taken | Fate::Known | Fate::Over => None,
-            Fate::QueueFull => Some(Pause::Queue(given.freed.queue)),
-            Fate::BookFull => Some(Pause::Book(given.freed.book)),
-            Fate::NoMemory => Some(Pause::Moment(Instant::now(self.clock).ok())),
-            Fate::Drained => Some(Pause::ForGood),
+            Fate::Taken | Fate::Known | Fate::Over => Pause::Over,
+            Fate::QueueFull => Pause::Queue(given.freed.queue),
+            Fate::BookFull => Pause::Book(given.freed.book),
+            Fate::NoMemory => Pause::Moment(Instant::now(self.clock).ok()),
+            Fate::Drained => Pause::ForGood,
         }
     }
 
@@ -221,9 +215,10 @@ impl<'a, R: Clock> Offers<'a, R> {
         let Some(first) = self.first_of(lane) else {
             return None;
         };
+        let accepted_first = first.accepted_first();
         let given = give(first, datagram);
+        self.notes.begin(accepted_first);
         let freed = self.notes.freed(lane);
-        self.notes.begin();
         self.given = Some(Given { lane, freed });
         Some(given)
     }
@@ -428,6 +423,23 @@ fn is_waiting(lanes: &[LaneOffers], lane: usize) -> bool
     first_waiting(lanes, lane).is_some()
 }
 
+/// Takes away the first request of a lane if this became of it and the lane is done with it. Otherwise the lane is left alone.
+#[tactic(auto, using(crate::proofs::Settling::settles_done, crate::proofs::Settling::settles_not))]
+fn settle_first(
+    lanes: &mut [LaneOffers],
+    lane: usize,
+    fate: Fate,
+    pause: Pause,
+) -> Option<WaitingRequest>
+    ensures { Settles fate lane (Some lanes.old) (Some lanes.new) }
+{
+    if fate.is_done() {
+        return take_first(lanes, lane, fate);
+    }
+    pause_lane(lanes, lane, pause);
+    None
+}
+
 fn pause_lane(lanes: &mut [LaneOffers], lane: usize, pause: Pause)
     ensures { (other : ℕ) → waiting_for lanes.new other ≡ waiting_for lanes.old other }
 {
@@ -480,9 +492,11 @@ impl LaneOffers {
 }
 
 /// Returns whether no request waits.
-fn are_done(lanes: &[LaneOffers]) -> bool {
-    for offers in lanes {
-        if !offers.requests.is_empty() {
+fn are_done(lanes: &[LaneOffers]) -> bool
+    ensures { IsTrue result → (lane : ℕ) → waiting_for lanes.now lane ≡ [] }
+{
+    for lane in 0..lanes.len() {
+        if is_waiting(lanes, lane) {
             return false;
         }
     }
@@ -503,6 +517,46 @@ impl Unfit {
         match self.reason {
             Some(reason) => reason.name(),
             None => "WrongCode",
+        }
+    }
+}
+
+/// The requests that earlier runs left, for each lane, and those that no longer pass the checks.
+#[derive(Drop)]
+struct SortedRequests {
+    lanes: Vec<LaneOffers>,
+    keys: WaitingKeys,
+    unfit: Vec<Unfit>,
+}
+
+impl SortedRequests {
+    /// Makes that of none, where earlier runs answered the requests of these keys.
+    fn new(alloc: Global, config: &Config, answered: &[Key]) -> Result<SortedRequests, AllocError> {
+        let lanes = no_offers(alloc, config.homes().len())?;
+        let mut keys = WaitingKeys::new(alloc, config)?;
+        for key in answered {
+            keys.add_answered(key)?;
+        }
+        Ok(SortedRequests {
+            lanes,
+            keys,
+            unfit: Vec::new(alloc),
+        })
+    }
+
+    /// Adds the next one.
+    fn add(&mut self, config: &Config, request: OpenRequest) -> Result<(), AllocError> {
+        match lane_of(config, &request) {
+            Ok(lane) => {
+                self.keys.add(&request.came.key)?;
+                push(&mut self.lanes, lane, waiting_request(request))
+            }
+            Err(reason) => Ok(
+                self.unfit.push(Unfit {
+                    came: request.came,
+                    reason,
+                })?,
+            ),
         }
     }
 }

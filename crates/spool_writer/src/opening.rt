@@ -14,6 +14,7 @@ use crate::wall_clock::time_since_1970;
 use crate::writer::SpoolWriter;
 use rad_log::Log;
 use rad_realms::Config;
+use rad_tables::Key;
 use rtrb::RingBuffer;
 use spool_files::{
     Counted, Fault, FaultKind, Head, LocalAddress, OpenRequest, RememberedAnswer, SegmentRead,
@@ -34,7 +35,7 @@ const LIMIT: &str = "RAD_PROXY_SPOOL_LIMIT";
 const DEFAULT_LIMIT: u64 = 1 << 34;
 
 /// How many requests may wait for the thread, and how many responses.
-const PLACES: usize = 32_768;
+pub(crate) const PLACES: usize = 32_768;
 
 /// Where a spool is, and how many octets it may have on disk.
 #[derive(Drop)]
@@ -302,6 +303,71 @@ impl FoundSpool {
     }
 }
 
+/// The ends of the two rings, and what the front, the thread and the reporter share.
+#[derive(Drop)]
+struct Ends {
+    requests: RequestGiver,
+    responses: ResponseGiver,
+    outlet: SpoolOutlet,
+    shared: Shared,
+}
+
+/// What the front, the thread and the reporter share: one of each for who has it.
+#[derive(Drop)]
+struct Shared {
+    of_inlet: Arc<SpoolState>,
+    of_responses: Arc<SpoolState>,
+    of_writer: Arc<SpoolState>,
+    state: Arc<SpoolState>,
+    notes_of_inlet: Arc<OfferNotes>,
+    notes: Arc<OfferNotes>,
+}
+
+impl Shared {
+    /// Makes it for so many lanes, at this moment in milliseconds since 1970.
+    fn new(
+        alloc: Global,
+        lanes: usize,
+        answers: &[RememberedAnswer],
+        now: u64,
+    ) -> Result<Shared, AllocError> {
+        let answered = keys_answered(alloc, answers)?;
+        let notes = Arc::new(alloc, OfferNotes::new(alloc, lanes, answered)?)?;
+        let state = Arc::new(alloc, SpoolState::new(now, Arc::try_clone(&notes)?))?;
+        Ok(Shared {
+            of_inlet: Arc::try_clone(&state)?,
+            of_responses: Arc::try_clone(&state)?,
+            of_writer: Arc::try_clone(&state)?,
+            notes_of_inlet: Arc::try_clone(&notes)?,
+            state,
+            notes,
+        })
+    }
+}
+
+/// Returns the keys of the requests that were answered.
+fn keys_answered(alloc: Global, answers: &[RememberedAnswer]) -> Result<Vec<Key>, AllocError> {
+    let mut answered = Vec::with_capacity(alloc, answers.len())?;
+    for answer in answers {
+        answered.push(answer.answered.key)?;
+    }
+    Ok(answered)
+}
+
+impl Ends {
+    /// Makes two rings into which nothing was put yet.
+    fn new(alloc: Global, shared: Shared) -> Result<Ends, AllocError> {
+        let (asked, taken_requests) = RingBuffer::new(alloc, PLACES)?;
+        let (answered, taken_responses) = RingBuffer::new(alloc, PLACES)?;
+        Ok(Ends {
+            requests: RequestGiver::new(asked),
+            responses: ResponseGiver::new(answered),
+            outlet: SpoolOutlet::new(taken_requests, taken_responses),
+            shared,
+        })
+    }
+}
+
 /// Makes the two rings, and what the front and the thread have of them.
 fn open_ends<'a, R: Clock, D: SpoolDisk + Drop>(
     rt: &'a R,
@@ -312,7 +378,35 @@ fn open_ends<'a, R: Clock, D: SpoolDisk + Drop>(
     ours: Vec<LocalAddress>,
     found: FoundSpool,
 ) -> Result<OpenedSpool<'a, R, D>, AllocError> {
-    let RunTerms { run, span, lanes } = terms;
+    let now = time_since_1970(rt).unwrap_or(0);
+    match make_ends(alloc, terms.lanes, &found.counted.answers, now) {
+        Ok(ends) => Ok(join_ends(rt, alloc, disk, (place, ours), terms, found, ends)),
+        Err(error) => Err(error),
+    }
+}
+
+fn make_ends(
+    alloc: Global,
+    lanes: usize,
+    answers: &[RememberedAnswer],
+    now: u64,
+) -> Result<Ends, AllocError> {
+    let shared = Shared::new(alloc, lanes, answers, now)?;
+    Ends::new(alloc, shared)
+}
+
+/// Gives the front and the thread what they have of the rings and of what was found.
+fn join_ends<'a, R: Clock, D: SpoolDisk + Drop>(
+    rt: &'a R,
+    alloc: Global,
+    disk: D,
+    place: (SpoolPlace, Vec<LocalAddress>),
+    terms: RunTerms,
+    found: FoundSpool,
+    ends: Ends,
+) -> OpenedSpool<'a, R, D> {
+    let RunTerms { run, span, .. } = terms;
+    let (place, ours) = place;
     let FoundSpool {
         counted,
         faults,
@@ -325,33 +419,38 @@ fn open_ends<'a, R: Clock, D: SpoolDisk + Drop>(
         answers,
         ..
     } = counted;
-    let mut answered = Vec::with_capacity(alloc, answers.len())?;
-    for answer in answers.iter() {
-        answered.push(answer.answered.key)?;
-    }
-    let notes = Arc::new(alloc, OfferNotes::new(alloc, lanes, answered)?)?;
-    let now = time_since_1970(rt).unwrap_or(0);
-    let state = Arc::new(alloc, SpoolState::new(now, Arc::try_clone(&notes)?))?;
-    let (asked, taken_requests) = RingBuffer::new(alloc, PLACES)?;
-    let (answered, taken_responses) = RingBuffer::new(alloc, PLACES)?;
+    let Ends {
+        requests: request_giver,
+        responses: response_giver,
+        outlet,
+        shared,
+    } = ends;
+    let Shared {
+        of_inlet,
+        of_responses,
+        of_writer,
+        state,
+        notes_of_inlet,
+        notes,
+    } = shared;
     let inlet = SpoolInlet {
         clock: rt,
         alloc,
-        giver: RequestGiver::new(asked),
+        giver: request_giver,
         run,
         ours,
         arrival: greatest.saturating_add(1),
         time: 0,
-        state: Arc::try_clone(&state)?,
-        notes: Arc::try_clone(&notes)?,
+        state: of_inlet,
+        notes: notes_of_inlet,
     };
     let responses = ResponseInlet {
         clock: rt,
         alloc,
-        giver: ResponseGiver::new(answered),
+        giver: response_giver,
         run,
         time: 0,
-        state: Arc::try_clone(&state)?,
+        state: of_responses,
     };
     let next = match segments.last() {
         Some(last) => last.number.saturating_add(1),
@@ -361,15 +460,15 @@ fn open_ends<'a, R: Clock, D: SpoolDisk + Drop>(
         place,
         run,
         span,
-        outlet: SpoolOutlet::new(taken_requests, taken_responses),
+        outlet,
         table,
         segments,
         next,
         may_remove: true,
         taken: 0,
-        state: Arc::try_clone(&state)?,
+        state: of_writer,
     };
-    Ok(OpenedSpool {
+    OpenedSpool {
         inlet,
         responses,
         writer,
@@ -379,5 +478,5 @@ fn open_ends<'a, R: Clock, D: SpoolDisk + Drop>(
         requests,
         answers,
         faults,
-    })
+    }
 }

@@ -44,7 +44,7 @@ pub(crate) struct NewRecord {
 }
 
 impl Parcel {
-    ghost use Rattle.std.specs.Prelude.{◌≡◌, IfOk};
+    ghost use Rattle.std.specs.Prelude.{◌≡◌, IfOk, IfSome};
     ghost use Rattle.rad_packet.specs.Packet.{IsPacketText};
     ghost use Rattle.spool_writer.specs.Parcels.{IsAnsweredOf, IsCameOf, key_answered, key_of};
 
@@ -104,6 +104,21 @@ impl Parcel {
             head: Head::Answered(answered),
             octets,
             before: putting.before,
+        })
+    }
+
+    /// Returns the parcel of an entry that has this text, unless that is too short or too long for it, or memory is refused.
+    pub(crate) fn of_entry(alloc: Global, head: Head, text: &[u8], before: u64) -> Option<Parcel>
+        ensures { IfSome result (λ parcel. (parcel.head ≡ head) × (parcel.octets ≡ text.now)) }
+    {
+        if text.len() < head.least_text() || head.greatest_text() < text.len() {
+            return None;
+        }
+        let octets = Octets::copy_of(alloc, text).ok()?;
+        Some(Parcel {
+            head,
+            octets,
+            before,
         })
     }
 

@@ -6,7 +6,6 @@ use crate::parcel::Parcel;
 use crate::state::SpoolState;
 use rtrb::Producer;
 use std::alloc::Global;
-use std::sync::Wait;
 use std::thread;
 use std::time::{Clock, Duration, Instant};
 
@@ -18,7 +17,7 @@ const LOOK: u64 = 1;
 
 /// Waits until a ring has room, for a second at most: unless the disk fails, or the wait before was in vain and the thread took
 /// nothing since.
-pub(crate) fn wait_for_room<R: Clock + Wait>(
+pub(crate) fn wait_for_room<R: Clock>(
     ring: &mut Producer<Parcel, Global>,
     clock: &R,
     state: &SpoolState,

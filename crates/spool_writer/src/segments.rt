@@ -71,13 +71,27 @@ pub(crate) fn total(segments: &[SegmentState]) -> u64 {
     octets
 }
 
-/// Returns whether what is open in the oldest segment has to be written once more, where all that is open has so many octets.
-pub(crate) fn is_over(segments: &[SegmentState], now: u64, span: u64, open: u64) -> bool {
+/// Returns how many octets a segment takes before the next one is begun, about, in a spool of at most so many.
+///
+/// Of a small spool no segment has more than an eighth, so that the oldest can go before the spool is full.
+pub(crate) fn most_of_a_segment(limit: u64) -> u64 {
+    (limit / 8).min(MOST_OCTETS as u64)
+}
+
+/// Returns whether what is open in the oldest segment has to be written once more, where all that is open has so many octets, and
+/// a segment takes this many at most.
+pub(crate) fn is_over(
+    segments: &[SegmentState],
+    now: u64,
+    span: u64,
+    open: u64,
+    most: u64,
+) -> bool {
     let mut within = 0_u64;
     for segment in segments {
         if segment.is_within(now, span) {
             within = within.saturating_add(segment.octets);
         }
     }
-    is_to_write_again(MOST_OCTETS as u64, total(segments), open, within)
+    is_to_write_again(most, total(segments), open, within)
 }

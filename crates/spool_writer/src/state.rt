@@ -123,6 +123,11 @@ impl SpoolState {
         }
     }
 
+    /// Returns what the front notes of the requests of earlier runs.
+    pub(crate) fn notes(&self) -> &OfferNotes {
+        &self.notes
+    }
+
     /// Returns how many requests were put into their ring.
     pub(crate) fn put(&self) -> u64 {
         self.put.load(Ordering::SeqCst)
@@ -164,13 +169,13 @@ impl SpoolState {
     }
 
     /// Returns how many rounds the thread has ended.
-    pub(crate) fn rounds(&self) -> u64 {
+    pub fn rounds(&self) -> u64 {
         self.rounds.load(Ordering::SeqCst)
     }
 
     /// Returns whether all requests are on disk that are open and were put into their ring before the thread had ended so many
     /// rounds. The round that was under way then may not have seen them all, so it takes the one after it.
-    pub(crate) fn has_all(&self, rounds: u64) -> bool {
+    pub fn has_all(&self, rounds: u64) -> bool {
         self.rounds() >= rounds.saturating_add(2)
             && self.unsynced.load(Ordering::SeqCst) == 0
             && self.can_have_all()

@@ -1,8 +1,10 @@
 //! Which requests wait to come in, and which were taken since, by their keys.
 
-ghost use Rattle.std.specs.Prelude.{◌≡◌, OnOk, OnErr};
+ghost use Rattle.std.specs.Prelude.{◌≡◌, OnOk, OnErr, option_map};
 ghost use Rattle.std.specs.FinMap as map;
+ghost use Rattle.spool_writer.specs.Earlier.{name_of_came};
 
+use rad_desk::Earlier;
 use rad_realms::Config;
 use rad_tables::{Duplicates, Key};
 use spool_files::Came;
@@ -18,6 +20,21 @@ pub(crate) struct WaitingRequest {
     pub(crate) octets: Vec<u8>,
     /// How it came in, if that was in an earlier run.
     pub(crate) came: Option<Came>,
+}
+
+impl WaitingRequest {
+    /// Returns what names its first acceptance, if that was in an earlier run.
+    pub(crate) fn accepted_first(&self) -> Option<Earlier>
+        ensures { result ≡ option_map name_of_came self.now.came }
+    {
+        let Came {
+            run,
+            lane,
+            number,
+            ..
+        } = self.came?;
+        Some(Earlier { run, lane, number })
+    }
 }
 
 /// The number that stands for a request that waits. One that was taken has a greater one.

@@ -1,17 +1,22 @@
 //! The thread that writes a spool.
 
+ghost use Rattle.std.specs.Prelude.{◌≡◌, [], IfOk};
+ghost use Rattle.rtrb.specs.Ring.{sent};
+
 use crate::appender::Appender;
 use crate::disk::SpoolDisk;
 use crate::fault::{SpoolFault, append_fault, device_fault, system_number};
+use crate::giving::EntryGiver;
 use crate::open_table::{MAY_BE, OpenTable, Place};
-use crate::opening::SpoolPlace;
+use crate::opening::{PLACES, SpoolPlace};
 use crate::outlet::SpoolOutlet;
 use crate::parcel::Parcel;
-use crate::segments::{SegmentState, find_mut, is_over, moment_of, total};
+use crate::segments::{SegmentState, find_mut, is_over, moment_of, most_of_a_segment, total};
 use crate::state::{RoundEnd, SpoolState};
 use crate::waiting::{Waiting, put_entries};
 use crate::wall_clock::time_since_1970;
 use rad_tables::Key;
+use rtrb::RingBuffer;
 use spool_files::{
     AppendError, Begun, Came, FileCalls, Head, MOST_OCTETS, VERSION, put_entry, read_segment,
     recover,
@@ -59,13 +64,13 @@ pub struct SpoolWriter {
     pub(crate) state: Arc<SpoolState>,
 }
 
-/// A writer at work.
+/// A writer at work, round by round. The thread of a run does a round each 50 ms; tests and a simulation do them as they choose.
 #[derive(Drop)]
-pub(crate) struct Session<'a, R, D: SpoolDisk + Drop> {
+pub struct SpoolSession<'a, R, D: SpoolDisk + Drop> {
     rt: &'a R,
     alloc: Global,
     disk: D,
-    pub(crate) its: SpoolWriter,
+    its: SpoolWriter,
     /// The newest segment, if it takes more batches.
     segment: Option<Appender<D::Calls>>,
     /// The entries that are in no batch that is on disk, in their order.
@@ -74,6 +79,8 @@ pub(crate) struct Session<'a, R, D: SpoolDisk + Drop> {
     body: Vec<u8>,
     /// Whether the last round failed.
     is_failing: bool,
+    /// How many octets have to be free before something is written after a fault.
+    reserve: u64,
     /// Whether a batch could not be appended that may be on disk all the same.
     is_torn: bool,
     /// How many rounds remain to the next look whether the newest segment is there.
@@ -104,9 +111,24 @@ where
 }
 
 impl SpoolWriter {
+    /// Makes other rings, out of which it takes from now on, and returns their other ends: nothing was put into them.
+    ///
+    /// # Errors
+    ///
+    /// `AllocError` if memory is refused. Then it has its rings still.
+    pub fn with_giver(&mut self, alloc: Global) -> Result<EntryGiver, AllocError>
+        ensures { IfOk result (λ giver. (sent giver.requests ≡ []) × (sent giver.responses ≡ [])) }
+    {
+        let (requests, taken_requests) = RingBuffer::new(alloc, PLACES)?;
+        let (responses, taken_responses) = RingBuffer::new(alloc, PLACES)?;
+        let state = Arc::try_clone(&self.state)?;
+        self.outlet = SpoolOutlet::new(taken_requests, taken_responses);
+        Ok(EntryGiver::new(alloc, requests, responses, state))
+    }
+
     /// Writes entries as they come, until the spool is ended and all is written. The thread does nothing else.
     pub fn write_all<R: Clock + Wait, D: SpoolDisk + Drop>(self, rt: &R, alloc: Global, disk: D) {
-        let mut session = Session::new(rt, alloc, self, disk);
+        let mut session = SpoolSession::new(rt, alloc, self, disk);
         for _ in rt.forever() {
             let began = Instant::now(rt).ok();
             let is_last = session.its.state.begin_round();
@@ -121,10 +143,10 @@ impl SpoolWriter {
     }
 }
 
-impl<'a, R, D: SpoolDisk + Drop> Session<'a, R, D> {
+impl<'a, R, D: SpoolDisk + Drop> SpoolSession<'a, R, D> {
     /// Makes a writer that has written nothing yet.
-    pub(crate) fn new(rt: &'a R, alloc: Global, its: SpoolWriter, disk: D) -> Session<'a, R, D> {
-        Session {
+    pub fn new(rt: &'a R, alloc: Global, its: SpoolWriter, disk: D) -> SpoolSession<'a, R, D> {
+        SpoolSession {
             rt,
             alloc,
             disk,
@@ -133,13 +155,14 @@ impl<'a, R, D: SpoolDisk + Drop> Session<'a, R, D> {
             waiting: Vec::new(alloc),
             body: Vec::new(alloc),
             is_failing: false,
+            reserve: 0,
             is_torn: false,
             rounds: LOOK,
         }
     }
 }
 
-impl<R: Clock, D: SpoolDisk + Drop> Session<'_, R, D> {
+impl<R: Clock, D: SpoolDisk + Drop> SpoolSession<'_, R, D> {
     /// Returns how many milliseconds to sleep after a round that began at this moment.
     fn pause(&self, began: Option<Instant>) -> u64 {
         if self.is_failing {
@@ -153,7 +176,7 @@ impl<R: Clock, D: SpoolDisk + Drop> Session<'_, R, D> {
     }
 
     /// Takes what came, writes it, and removes what no longer counts. Reports whether that failed.
-    pub(crate) fn do_round(&mut self) {
+    pub fn do_round(&mut self) {
         let began = self.now();
         match self.write_round() {
             Ok(()) => self.succeed(),
@@ -171,9 +194,13 @@ impl<R: Clock, D: SpoolDisk + Drop> Session<'_, R, D> {
         });
     }
 
-    /// Reports a fault, if the round before did not fail.
+    /// Reports a fault, if the round before did not fail. A spool that is full is written again once it has room for more than a
+    /// batch, so that a full one is not reported again and again.
     fn fail(&mut self, fault: SpoolFault) {
         self.its.state.count_fault();
+        if matches!(fault, SpoolFault::Limit) {
+            self.reserve = self.its.place.limit / 8;
+        }
         if !self.is_failing {
             self.is_failing = true;
             self.its.state.fail(fault);
@@ -182,6 +209,7 @@ impl<R: Clock, D: SpoolDisk + Drop> Session<'_, R, D> {
 
     /// Reports that entries are written again, if the round before failed.
     fn succeed(&mut self) {
+        self.reserve = 0;
         if self.is_failing {
             self.is_failing = false;
             self.its.state.goes_on();
@@ -224,7 +252,7 @@ impl<R: Clock, D: SpoolDisk + Drop> Session<'_, R, D> {
     fn write_all_waiting(&mut self) -> Result<(), SpoolFault> {
         if self.is_failing {
             self.let_go();
-            self.check_limit(0)?;
+            self.check_limit(self.reserve)?;
             if self.segment.is_none() {
                 self.begin_segment()?;
             }
@@ -238,7 +266,7 @@ impl<R: Clock, D: SpoolDisk + Drop> Session<'_, R, D> {
     }
 }
 
-impl<R: Clock, D: SpoolDisk + Drop> Session<'_, R, D> {
+impl<R: Clock, D: SpoolDisk + Drop> SpoolSession<'_, R, D> {
     /// Takes all that is in the rings.
     fn take_all(&mut self) -> Result<(), SpoolFault> {
         let mut outcome = Ok(());
@@ -322,7 +350,7 @@ fn is_open(table: &OpenTable, came: &Came) -> bool {
     }
 }
 
-impl<R: Clock, D: SpoolDisk + Drop> Session<'_, R, D> {
+impl<R: Clock, D: SpoolDisk + Drop> SpoolSession<'_, R, D> {
     /// Writes all that waits, in batches.
     fn write_waiting(&mut self) -> Result<(), SpoolFault> {
         for _ in 0..self.waiting.len() {
@@ -397,13 +425,14 @@ impl<R: Clock, D: SpoolDisk + Drop> Session<'_, R, D> {
     }
 }
 
-impl<R: Clock, D: SpoolDisk + Drop> Session<'_, R, D> {
+impl<R: Clock, D: SpoolDisk + Drop> SpoolSession<'_, R, D> {
     /// Appends the body as a batch: to the newest segment, or, if that has no room for it, to a new one.
     fn append_body(&mut self) -> Result<(), SpoolFault> {
         if self.body.is_empty() {
             return Ok(());
         }
         self.check_limit(self.body.len() as u64)?;
+        self.leave_large_segment();
         if self.try_append()? {
             return Ok(());
         }
@@ -412,6 +441,16 @@ impl<R: Clock, D: SpoolDisk + Drop> Session<'_, R, D> {
             Ok(())
         } else {
             Err(SpoolFault::Limit)
+        }
+    }
+
+    /// Leaves the newest segment for the next one if it has as many octets as one takes in this spool.
+    fn leave_large_segment(&mut self) {
+        if let Some(last) = self.its.segments.last()
+            && last.has_entries
+            && last.octets >= most_of_a_segment(self.its.place.limit)
+        {
+            self.segment = None;
         }
     }
 
@@ -517,7 +556,7 @@ impl<R: Clock, D: SpoolDisk + Drop> Session<'_, R, D> {
     }
 }
 
-impl<R: Clock, D: SpoolDisk + Drop> Session<'_, R, D> {
+impl<R: Clock, D: SpoolDisk + Drop> SpoolSession<'_, R, D> {
     /// Removes the oldest segments as long as nothing of them counts. If they have too many octets, what is open in the oldest
     /// is written once more.
     fn remove_old(&mut self) -> Result<(), SpoolFault> {
@@ -544,7 +583,10 @@ impl<R: Clock, D: SpoolDisk + Drop> Session<'_, R, D> {
             return Ok(true);
         }
         let open = self.its.table.octets();
-        if !self.waiting.is_empty() || !is_over(&self.its.segments, now, self.its.span, open) {
+        let most = most_of_a_segment(self.its.place.limit);
+        if !self.waiting.is_empty()
+            || !is_over(&self.its.segments, now, self.its.span, open, most)
+        {
             return Ok(false);
         }
         self.write_again(oldest.number)?;

@@ -334,6 +334,65 @@ def counts_of_responses():
             "ledger:2: NotEntry", wrong("ledger:3"), f"ledger:3: run {NAME:016x} lane 0 h1 gap 0 to 0", counted(0, "h1", 0, 1, "gap 0 to 0"), fates(2, 1, 0)], 5
 
 
+def earlier_runs():
+    """Lines of requests that a lane took over from earlier runs, and of responses of such runs that were sent again."""
+    run, older, old = two(), f"{NAME + 1:016x}", f"{NAME + 2:016x}"
+    begin, name = run.begin(), f"{NAME:016x}"
+    of = lambda record, first=0, lane=0, **keys: changed({
+        **run.head("resumed"), "home": f"h{lane + 1}", "lane": lane, "record": record, "first_run": older, "first_lane": lane, "first_record": first}, **keys)
+    entries = [run.entry(), run.entry(1), run.entry(), run.left(1), run.entry()]
+    end = run.end_of_all()
+    whole = [counted(0, "h1", 0, 3, "whole"), fates(3, 3, 0), counted(1, "h2", 0, 1, "whole"), fates(2, 1, 1, 1, "h2")]
+    resumed = lambda first, second: [*whole[:2], *([f"run {name} lane 0 h1 resumed {first}"] if first else []),
+                                     *whole[2:], *([f"run {name} lane 1 h2 resumed {second}"] if second else [])]
+    case = lambda *lines: {"ledger": text(chained([begin, *lines, *entries, end]))}
+    yield "resumed", case(of(0), of(1, 1), of(0, lane=1), of(2, 2)), resumed(3, 1), 0
+    yield "resumed-behind-other-entries", {"ledger": text(chained([begin, of(0, 7), *entries[:2], of(1, 9), of(1, 7, 1), *entries[2:], end]))}, resumed(2, 1), 0
+    yield "resumed-from-two-runs", case(of(0, 9), of(1, 0, first_run=old), of(2, 3, first_run=old, first_lane=9)), resumed(3, 0), 0
+    yield "resumed-from-two-lanes", case(of(0, 9), of(1, 0, first_lane=1), of(2, 1, first_lane=1)), resumed(3, 0), 0
+    yield "resumed-from-the-last-lane", case(of(0, 2**64 - 1, first_lane=65535, first_run="f" * 16)), resumed(1, 0), 0
+    yield "resumed-from-its-own-run", case(of(0), of(1, 1, first_run=name), of(2, 2)), ["ledger:3: UnknownRecord", *resumed(2, 0)], 5
+    yield "resumed-from-its-own-run-in-capitals", case(of(0, first_run=name.upper())), ["ledger:2: UnknownRecord", *whole], 5
+    for what, line in {"twice": of(1, 1), "twice-under-another-number": of(2, 1), "twice-from-another-run": of(1, 5, first_run=old),
+                       "out-of-order": of(0, 2), "from-a-lower-number": of(2, 0)}.items():
+        yield f"resumed-{what}", case(of(1, 1), line), ["ledger:3: RecordTwice", *resumed(1, 0)], 5
+    yield "resumed-behind-its-entry", {"ledger": text(chained([begin, entries[0], of(0), *entries[1:], end]))}, ["ledger:3: RecordTwice", *whole], 5
+    late = {"ledger": text(chained([begin, *entries[:4], of(1, 0, 1), entries[4], end]))}
+    yield "resumed-behind-what-was-left", late, ["ledger:6: RecordTwice", *whole], 5
+    yield "resumed-of-another-lane", case(of(0, lane=2)), ["ledger:2: UnknownLane", *whole], 5
+    yield "resumed-of-another-home-server", case(of(0, home="h2")), ["ledger:2: UnknownLane", *whole], 5
+    yield "resumed-of-a-run-that-is-not-there", case(of(0, run=old, first_run=name)), ["ledger:2: UnknownLane", wrong("ledger:3"), *whole], 5
+    yield "resumed-and-never-accepted", case(of(2), of(3, 1), of(1, lane=1)), ["ledger:10: UnknownRecord", *resumed(2, 1)], 5
+    never = case(of(3), of(2, lane=1), of(1, 1, first_run=name))
+    yield "resumed-and-never-accepted-by-two", never, ["ledger:4: UnknownRecord", "ledger:10: UnknownRecord", "ledger:10: UnknownRecord", *resumed(1, 1)], 5
+    behind = {"ledger": text(chained([begin, *entries, end, of(3, 0)]))}
+    yield "resumed-behind-an-end", behind, [resumed(1, 0)[0].replace("whole", "contradicted"), *resumed(1, 0)[1:]], 9
+    bare_end = {**end, "lanes": [{key: lane[key] for key in ("lane", "entries")} for lane in end["lanes"]]}
+    uncounted_end = {"ledger": text(chained([begin, of(9), *entries, bare_end]))}
+    yield "resumed-without-counts", uncounted_end, [counted(0, "h1", 0, 3, "part"), f"run {name} lane 0 h1 resumed 1", counted(1, "h2", 0, 1, "part")], 7
+    for what, keys in {"without-its-first-record": {"first_record": None}, "of-no-run": {"first_run": "1234"}, "with-a-key-more": {"count": 1},
+                       "with-a-home-server-more": {"first_home": "h1"}, "of-a-lane-that-is-too-great": {"first_lane": 65536},
+                       "of-a-record-that-is-too-great": {"first_record": 2**64}, "of-a-record-as-text": {"first_record": "0"}}.items():
+        yield f"resumed-{what}", case(of(0, **keys)), ["ledger:2: NotEntry", wrong("ledger:3"), *whole], 5
+    again = lambda lane=0, **keys: changed({**run.head("again"), "home": f"h{lane + 1}", "lane": lane, "answer_run": older, "answer_lane": lane,
+                                            "answer_serial": 7, "count": 2}, **keys)
+    yield "again-of-an-earlier-run", case(again(), again(1, answer_lane=9, answer_serial=2**63 - 1), again()), whole, 0
+    yield "again-of-its-own-run", case(again(answer_run=name)), ["ledger:2: UnknownRecord", *whole], 5
+    yield "again-of-an-earlier-run-and-another-lane", case(again(2)), ["ledger:2: UnknownLane", *whole], 5
+    yield "again-of-an-earlier-run-and-another-home-server", case(again(home="h2")), ["ledger:2: UnknownLane", *whole], 5
+    yield "again-of-an-earlier-run-behind-an-end", {"ledger": text(chained([begin, *entries, end, again(1)]))}, [
+        *whole[:2], whole[2].replace("whole", "contradicted"), whole[3]], 9
+    for what, keys in {"with-a-record": {"record": 0}, "without-its-serial": {"answer_serial": None}, "that-is-none": {"answer_run": "x" * 16}, "never": {"count": 0},
+                       "of-a-serial-that-is-too-great": {"answer_serial": 2**63}, "of-a-lane-that-is-too-great": {"answer_lane": 65536}}.items():
+        yield f"again-of-an-earlier-run-{what}", case(again(**keys)), ["ledger:2: NotEntry", wrong("ledger:3"), *whole], 5
+    yield "unsent-of-an-earlier-run", case(again(type="unsent")), ["ledger:2: NotEntry", wrong("ledger:3"), *whole], 5
+    for what in ("resumed", "again"):
+        its = chained([begin, of(0), *entries[:2], again(), *entries[2:], end])
+        place = next(at for at, line in enumerate(its) if line["type"] == what)
+        yield f"{what}-left-out", {"ledger": text([*its[:place], hidden(its[place], lane=0, kind=what), *its[place + 1 :]])}, [
+            *resumed(int(what == "again"), 0), f"run {name} hidden 1"], 7
+
+
 def between_runs():
     """What somebody makes of two whole runs, as above."""
     lines, others = with_sums(), with_sums(NAME + 1)
@@ -583,7 +642,7 @@ def written_cases():
     for name, files, lines, status, *words in chains():
         yield name, files, lines, status, config(), words[0] if words else []
     for name, files, lines, status, *rest in [
-            *tampered(), *spoiled_sums(), *left_out(), *counts_of_responses(), *between_runs(), *exchanged_cases.between_runs(), *runs_before(), *without_sums(), *uncounted()]:
+            *tampered(), *spoiled_sums(), *left_out(), *counts_of_responses(), *earlier_runs(), *between_runs(), *exchanged_cases.between_runs(), *runs_before(), *without_sums(), *uncounted()]:
         yield name, files, lines, status, *rest, *(config(), [])[len(rest) :]
 
 

@@ -1,6 +1,6 @@
 use Rattle.json.specs.Value.{value_view}
 use Rattle.ledger_lines.proofs.Lines.{part}
-use Rattle.ledger_lines.proofs.Types.{type_of, entry_in, left_in, begin_in, end_in, hidden_in, unsent_in, again_in, other_denied}
+use Rattle.ledger_lines.proofs.Types.{type_of, entry_in, left_in, begin_in, end_in, hidden_in, unsent_in, resumed_in, other_denied}
 use Rattle.ledger_lines.proofs.reading.line_of.Goals as goal
 
 pub returns-in_err-text_at : goal.returns-in_err-text_at
@@ -36,11 +36,11 @@ returns-in_err-record_count_of-in-unsent c =
     let gone = c.from_residual-in_err-record_count_of-in-unsent in
     part _ _ _ gone.result c.in_err-record_count_of-in-unsent.field-0.0 gone.ensures.1 c.in_err-record_count_of-in-unsent.ensures (unsent_in (value_view c.args.value.now) (rw c.in-unsent.is at c.in_ok-text_at.ensures))
 
-pub returns-in_err-record_count_of-in-again : goal.returns-in_err-record_count_of-in-again
-returns-in_err-record_count_of-in-again c =
-    let gone = c.from_residual-in_err-record_count_of-in-again in
-    part _ _ _ gone.result c.in_err-record_count_of-in-again.field-0.0 gone.ensures.1 c.in_err-record_count_of-in-again.ensures (again_in (value_view c.args.value.now) (rw c.in-again.is at c.in_ok-text_at.ensures))
+pub returns-in_err-resumed_of-in-resumed : goal.returns-in_err-resumed_of-in-resumed
+returns-in_err-resumed_of-in-resumed c =
+    let gone = c.from_residual-in_err-resumed_of-in-resumed in
+    part _ _ _ gone.result c.in_err-resumed_of-in-resumed.field-0.0 gone.ensures.1 c.in_err-resumed_of-in-resumed.ensures (resumed_in (value_view c.args.value.now) (rw c.in-resumed.is at c.in_ok-text_at.ensures))
 
 pub returns-in_default : goal.returns-in_default
 returns-in_default c =
-    other_denied (value_view c.args.value.now) c.in_ok-text_at.field-0.now c.in_ok-text_at.ensures c.in_default.not-entry c.in_default.not-left c.in_default.not-begin c.in_default.not-end c.in_default.not-hidden c.in_default.not-unsent c.in_default.not-again
+    other_denied (value_view c.args.value.now) c.in_ok-text_at.field-0.now c.in_ok-text_at.ensures c.in_default.not-entry c.in_default.not-left c.in_default.not-begin c.in_default.not-end c.in_default.not-hidden c.in_default.not-unsent c.in_default.not-again c.in_default.not-resumed

@@ -1,16 +1,16 @@
 use Rattle.std.proofs.Common.{refl}
-use Rattle.rad_desk.proofs.FrontWork.{hands_none, hands_one}
-use Rattle.rad_desk.proofs.HandOver.{keeps_none, keeps_one}
+use Rattle.rad_desk.proofs.FrontWork.{hands_nothing}
+use Rattle.rad_desk.proofs.HandOver.{keeps_none}
 use Rattle.rad_desk.proofs.front.take.Goals as goal
 
-pub returns-in_default-clause-hands : goal.returns-in_default-clause-hands
-returns-in_default-clause-hands g c = hands_none _ _ c.take-taken.ensures.same c.in_default.ensures.none _ _ refl
+pub returns-then-not-may_have_response-clause-hands : goal.returns-then-not-may_have_response-clause-hands
+returns-then-not-may_have_response-clause-hands g c = hands_nothing _ _ _ refl
 
-pub returns-in_default-clause-taken : goal.returns-in_default-clause-taken
-returns-in_default-clause-taken g c = keeps_none _ _ c.in_default.ensures.none _ _
+pub returns-then-not-may_have_response-clause-taken : goal.returns-then-not-may_have_response-clause-taken
+returns-then-not-may_have_response-clause-taken g c = keeps_none _ _ refl _ _
 
 pub returns-clause-hands : goal.returns-clause-hands
-returns-clause-hands g c = hands_one _ _ c.in-Some.outgoing _ c.take-taken.ensures.same c.in-Some.ensures.some c.in-Some.ensures.answers c.response.ensures _ _ c.send.ensures.sends
+returns-clause-hands g c = c.take_next.ensures.hands
 
 pub returns-clause-taken : goal.returns-clause-taken
-returns-clause-taken g c = keeps_one _ _ c.in-Some.outgoing c.in-Some.ensures.some _ _ _ c.keep.ensures
+returns-clause-taken g c = c.take_next.ensures.taken

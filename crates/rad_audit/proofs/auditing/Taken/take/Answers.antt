@@ -25,6 +25,16 @@ returns-in-Count-clause-taken g c =
     on_ok_weaker c.take_count.result (λ follow. taken_of c.args.self.now.config.now c.args.line.now.content c.args.self.now.known.runs c.take_count.new.known.runs
     (subst (λ (x : Content). Follow c.args.self.now.config.now x c.args.self.now.known.runs c.take_count.new.known.runs) (sym c.in-Count.is) (follow c.args.self.now.config.now))) c.take_count.ensures
 
+pub returns-in-AgainEarlier-clause-taken : goal.returns-in-AgainEarlier-clause-taken
+returns-in-AgainEarlier-clause-taken g c =
+    on_ok_weaker c.take_earlier.result (λ follow. taken_of c.args.self.now.config.now c.args.line.now.content c.args.self.now.known.runs c.take_earlier.new.known.runs
+    (subst (λ (x : Content). Follow c.args.self.now.config.now x c.args.self.now.known.runs c.take_earlier.new.known.runs) (sym c.in-AgainEarlier.is) (follow c.args.self.now.config.now))) c.take_earlier.ensures
+
+pub returns-in-Resumed-clause-taken : goal.returns-in-Resumed-clause-taken
+returns-in-Resumed-clause-taken g c =
+    on_ok_weaker c.take_resumed.result (λ follow. taken_of c.args.self.now.config.now c.args.line.now.content c.args.self.now.known.runs c.take_resumed.new.known.runs
+    (subst (λ (x : Content). Follow c.args.self.now.config.now x c.args.self.now.known.runs c.take_resumed.new.known.runs) (sym c.in-Resumed.is) (follow c.args.self.now.config.now))) c.take_resumed.ensures
+
 pub returns-in-End-clause-taken : goal.returns-in-End-clause-taken
 returns-in-End-clause-taken g c =
     on_ok_weaker c.take_end.result (λ follow. taken_of c.args.self.now.config.now c.args.line.now.content c.args.self.now.known.runs c.take_end.new.known.runs
