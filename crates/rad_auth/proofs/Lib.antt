@@ -3,6 +3,7 @@ pub mod Digests
 pub mod Exclusive
 pub mod Forwards
 pub mod LastStates
+pub mod Halves
 pub mod Marks
 pub mod OneKind
 pub mod OnlySigns

@@ -1,6 +1,7 @@
 //! Request and Response Authenticators (RFC 2866 section 3).
 
 ghost use Rattle.std.specs.Prelude.{◌≡◌, ◌≤◌, ◌/◌, ◌%◌, ◌++◌, ◌↔◌, [], ◌∷◌, length, take, drop, IsTrue};
+ghost use Rattle.std.specs.Int.{w64, from_be_bytes};
 ghost use Rattle.md5.specs.Md5.{md5};
 ghost use Rattle.rad_packet.specs.Packet.{IsPacketText, attribute_octets, code_of, identifier_of, packet_text};
 ghost use Rattle.rad_auth.specs.Authenticator.{IsRequestOf, IsRightRequest, IsRightResponse, accounting_request, request_authenticator, response_authenticator};
@@ -12,6 +13,27 @@ use rad_packet::{Datagram, HEADER_LENGTH, PacketRef};
 
 /// The zeros that are hashed in place of a Request Authenticator (RFC 2866 section 3).
 pub(crate) const NO_AUTHENTICATOR: [u8; 16] = [0; 16];
+
+/// Returns whether two Authenticators are the same. They are compared as numbers, which takes less time than octet by octet.
+fn is_same(one: &[u8; 16], other: &[u8; 16]) -> bool
+    ensures { IsTrue result ↔ one.now ≡ other.now }
+{
+    first_half(one) == first_half(other) && last_half(one) == last_half(other)
+}
+
+fn first_half(octets: &[u8; 16]) -> u64
+    ensures { result ≡ from_be_bytes w64 (take 8 octets.now) }
+{
+    let o = octets;
+    u64::from_be_bytes([o[0], o[1], o[2], o[3], o[4], o[5], o[6], o[7]])
+}
+
+fn last_half(octets: &[u8; 16]) -> u64
+    ensures { result ≡ from_be_bytes w64 (drop 8 octets.now) }
+{
+    let o = octets;
+    u64::from_be_bytes([o[8], o[9], o[10], o[11], o[12], o[13], o[14], o[15]])
+}
 
 /// Returns the Request Authenticator of an Accounting-Request (RFC 2866 section 3). Hashes the packet once.
 pub fn request_authenticator(packet: &PacketRef<'_>, secret: &Secret) -> [u8; 16]
@@ -37,7 +59,10 @@ pub fn response_authenticator(
 pub fn check_request(packet: &PacketRef<'_>, secret: &Secret) -> bool
     ensures { IsTrue result ↔ IsRightRequest secret.now packet.now }
 {
-    packet.authenticator() == request_authenticator(packet, secret)
+    is_same(
+        &packet.authenticator(),
+        &request_authenticator(packet, secret),
+    )
 }
 
 /// Whether this is the Authenticator of an Accounting-Request with this Identifier and these attributes that is valid under a
@@ -56,7 +81,8 @@ pub fn is_request_of(
         identifier,
         HEADER_LENGTH + attributes.len(),
     );
-    *authenticator == digest_of_parts(&start, &NO_AUTHENTICATOR, attributes, &[], secret)
+    let right = digest_of_parts(&start, &NO_AUTHENTICATOR, attributes, &[], secret);
+    is_same(authenticator, &right)
 }
 
 /// Whether a packet's Response Authenticator is valid under a secret, for a request with this Authenticator.
@@ -65,7 +91,10 @@ pub fn is_request_of(
 pub fn check_response(packet: &PacketRef<'_>, authenticator: &[u8; 16], secret: &Secret) -> bool
     ensures { IsTrue result ↔ IsRightResponse secret.now authenticator.now packet.now }
 {
-    packet.authenticator() == response_authenticator(packet, authenticator, secret)
+    is_same(
+        &packet.authenticator(),
+        &response_authenticator(packet, authenticator, secret),
+    )
 }
 
 /// Sets the Identifier and the Request Authenticator of an Accounting-Request, given by its octets without padding.
