@@ -1,7 +1,7 @@
 -- A batch as a field, and what a file has.
-use Rattle.std.proofs.Common.{◌≡◌, ◌≢◌, ℕ, ◌^◌, ◌<◌, ◌-◌, cond, eqb, List, [], ◌∷◌, ◌++◌, length, get_or, Some, None, refl, sym, ap, subst, ◌∙◌, append_assoc, arith}
+use Rattle.std.proofs.Common.{◌≡◌, ◌≢◌, ℕ, ◌^◌, ◌<◌, ◌-◌, Bool, cond, eqb, List, [], ◌∷◌, ◌++◌, length, get_or, Option, Some, None, refl, sym, ap, subst, ◌∙◌, append_assoc, arith}
 use Rattle.std.specs.Int.{w32, to_be_bytes}
-use Rattle.std.proofs.lemmas.Bool.{eqb-true}
+use Rattle.std.proofs.lemmas.Bool.{eqb-true, ne_eqb}
 use Rattle.std.proofs.lemmas.List.{length-append}
 use Rattle.spool_files.specs.Batches.{Batch, frame_octets, batch_octets, octets_of_batches, FitsBatch, AreBatches, NoBatch, Has}
 use Rattle.spool_files.specs.internal.Fields.{bind, first_at, octets_at, number_at, frame_at, batch_at}
@@ -49,6 +49,20 @@ batch_takes octets batch rest are e =
 batch_again : (batch : Batch) (rest : List ℕ) → FitsBatch batch → batch_at (batch_octets batch ++ rest) ≡ Some (batch, rest)
 unfolding batch_at
 batch_again batch rest fits = frame_again batch rest fits
+
+-- what is read behind an open gate, and behind one that is not open
+pub behind_open : (octets rest : List ℕ) (gate : ℕ) (found : Option (Batch × List ℕ)) → first_at octets ≡ Some (gate, rest) → gate ≡ 1 → found ≡ frame_at rest → found ≡ batch_at octets
+unfolding batch_at
+behind_open octets rest gate found first opened is =
+    is
+    ∙ ap (λ (g : ℕ). cond (eqb g 1) (frame_at rest) None) (sym opened)
+    ∙ ap (λ (o : Option (ℕ × List ℕ)). bind o (λ gate. cond (eqb gate.0 1) (frame_at gate.1) None)) (sym first)
+
+pub behind_closed : (octets rest : List ℕ) (gate : ℕ) → first_at octets ≡ Some (gate, rest) → gate ≢ 1 → None ≡ batch_at octets
+unfolding batch_at
+behind_closed octets rest gate first shut =
+    ap (λ (b : Bool). cond b (frame_at rest) None) (sym (ne_eqb gate 1 shut))
+    ∙ ap (λ (o : Option (ℕ × List ℕ)). bind o (λ gate. cond (eqb gate.0 1) (frame_at gate.1) None)) (sym first)
 
 pub batch_field : IsField batch_at batch_octets FitsBatch
 batch_field = record { takes = batch_takes; again = batch_again }

@@ -1,9 +1,11 @@
 -- The tables of what octets make of a register, and six registers at once.
-use Rattle.std.proofs.Common.{◌≡◌, ◌^◌, ℕ, zero, suc, ◌+◌, ◌*◌, ◌/◌, ◌%◌, ◌<◌, ◌≤◌, Bool, true, false, cond, ◌&&◌, eqb, T, List, [], ◌∷◌, ◌++◌, length, take, drop, get_or, refl, sym, ap, ◌∙◌, arith}
-use Rattle.std.specs.Prelude.{bit_xor}
+use Rattle.std.proofs.Common.{◌≡◌, ◌^◌, ℕ, zero, suc, ◌+◌, ◌-◌, ◌*◌, ◌/◌, ◌%◌, ◌<◌, ◌≤◌, cond, eqb, List, [], ◌∷◌, ◌++◌, length, take, drop, get_or, refl, sym, ap, ◌∙◌, arith, inl, inr}
+use Rattle.std.specs.Prelude.{bit_xor, map}
 use Rattle.std.specs.Int.Bits.{xor_assoc, xor_self, xor_zero_l, xor_zero_r}
 use Rattle.std.proofs.lemmas.Nat.{xor_comm, xor_mod, xor_shr, xor_block}
-use Rattle.std.proofs.lemmas.List.{length-take, length-drop}
+use Rattle.std.proofs.Math.Nat.{pow-suc}
+use Rattle.std.proofs.lemmas.Bool.{cases_lt}
+use Rattle.std.proofs.lemmas.List.{length-append, length-drop, length-map, length-take, get_or-append_right, get_or-map, get_or_append_left}
 use Rattle.std.specs.Int.{w32, from_le_bytes}
 use Rattle.spool_files.specs.CheckSums.{shifted, shifted_by_eight, register_after}
 use Rattle.spool_files.specs.internal.Registers.{after_octets, joined_after, word_in}
@@ -120,47 +122,94 @@ in_four k n =
     ∙ sym (xor_assoc a b _)
     ∙ sym (xor_assoc (bit_xor a b) (after_octets (suc (suc k)) (n / 65536 % 256)) _)
 
--- a table has what so many octets make of each number up to its length
+-- what so many octets make of the numbers below a power of two: of those below its half, and of these with the highest bit
+abbrev with_bit : ℕ → List ℕ → List ℕ
+with_bit high below = below ++ map (bit_xor high) below
+
+abbrev of_bits : ℕ → ℕ → List ℕ
+of_bits k zero = 0 ∷ []
+of_bits k (suc n) = with_bit (after_octets k (2 ^ n)) (of_bits k n)
+
+length_of_bits : (k n : ℕ) → length (of_bits k n) ≡ 2 ^ n
+length_of_bits k zero = refl
+length_of_bits k (suc n) =
+    let below : List ℕ = of_bits k n in
+    omega (arith, length-append below (map (bit_xor (after_octets k (2 ^ n))) below), length-map below (bit_xor (after_octets k (2 ^ n))), length_of_bits k n, pow-suc 2 n)
+
+after_none : (k : ℕ) → after_octets k 0 ≡ 0
+unfolding shifted_by_eight shifted
+after_none zero = refl
+after_none (suc k) = after_none k
+
+-- the highest bit and those below it
+with_highest : (n i : ℕ) → i < 2 ^ n → bit_xor (2 ^ n) i ≡ 2 ^ n + i
+with_highest n i below =
+    let none : 0 < 2 ^ n = omega (arith, below) in
+    let high : 1 * 2 ^ n + 0 ≡ 2 ^ n = omega arith in
+    let low : 0 * 2 ^ n + i ≡ i = omega arith in
+    let sum : 1 * 2 ^ n + i ≡ 2 ^ n + i = omega arith in
+    ap (λ (h : ℕ). bit_xor h i) (sym high)
+    ∙ ap (bit_xor (1 * 2 ^ n + 0)) (sym low)
+    ∙ xor_block n 1 0 0 i none below
+    ∙ ap (λ (l : ℕ). 1 * 2 ^ n + l) (xor_zero_l i)
+    ∙ sum
+
+bits_at : (k n i : ℕ) → i < 2 ^ n → get_or (of_bits k n) i 0 ≡ after_octets k i
+bits_at k zero zero below = sym (after_none k)
+bits_at k zero (suc i) below = absurd (omega (arith, below))
+bits_at k (suc n) i below = elim (cases_lt i (2 ^ n)) [
+  | inl low ↦ get_or_append_left (of_bits k n) _ 0 i (omega (arith, low, length_of_bits k n)) ∙ bits_at k n i low
+  | inr high ↦
+      let rest : i - 2 ^ n < 2 ^ n = omega (arith, below, high, pow-suc 2 n) in
+      let whole : 2 ^ n + (i - 2 ^ n) ≡ i = omega (arith, high) in
+      get_or-append_right (of_bits k n) _ (2 ^ n) i 0 (length_of_bits k n) high
+      ∙ get_or-map (bit_xor (after_octets k (2 ^ n))) (of_bits k n) (i - 2 ^ n) 0 0 (omega (arith, rest, length_of_bits k n))
+      ∙ ap (bit_xor (after_octets k (2 ^ n))) (bits_at k n (i - 2 ^ n) rest)
+      ∙ sym (after_xor k (2 ^ n) (i - 2 ^ n))
+      ∙ ap (after_octets k) (with_highest n (i - 2 ^ n) rest ∙ whole)
+]
+
+-- a table has what so many octets make of each number of eight bits
 abbrev IsTable : ℕ → List ℕ → Type 0
 IsTable k table = (i : ℕ) → i < 256 → get_or table i 0 ≡ after_octets k i
 
-abbrev are_after_from : ℕ → ℕ → List ℕ → Bool
-are_after_from k first [] = true
-are_after_from k first (x ∷ xs) = eqb x (after_octets k first) && are_after_from k (suc first) xs
+is_table : (k : ℕ) (table : List ℕ) → table ≡ of_bits k 8 → IsTable k table
+is_table k table is = λ i below. ap (λ (l : List ℕ). get_or l i 0) is ∙ bits_at k 8 i below
 
-after_at : (k : ℕ) (xs : List ℕ) (first i at : ℕ) → T (are_after_from k first xs) → i < length xs → at ≡ first + i → get_or xs i 0 ≡ after_octets k at
-after_at k [] first i at are below is = absurd (omega (arith, below))
-after_at k (x ∷ xs) first zero at are below is =
-    let same : first ≡ at = omega (arith, is) in
-    here x first are ∙ ap (after_octets k) same
-  where
-    here : (x first : ℕ) → T (eqb x (after_octets k first) && are_after_from k (suc first) xs) → x ≡ after_octets k first
-    here x first are = grind (arith, are)
-after_at k (x ∷ xs) first (suc i) at are below is = after_at k xs (suc first) i at (others (eqb x (after_octets k first)) are) (omega (arith, below)) (omega (arith, is))
-  where
-    others : (b : Bool) → T (b && are_after_from k (suc first) xs) → T (are_after_from k (suc first) xs)
-    others true are = are
-    others false are = absurd are
+same_one : AFTER_ONE ≡ of_bits 1 8
+unfolding shifted_by_eight shifted
+same_one = refl
 
 one : IsTable 1 AFTER_ONE
+one = is_table 1 AFTER_ONE same_one
+
+same_21 : AFTER_21 ≡ of_bits 21 8
 unfolding shifted_by_eight shifted
-one i below = after_at 1 AFTER_ONE 0 i i tt below (omega arith)
+same_21 = refl
 
 is_21 : IsTable 21 AFTER_21
+is_21 = is_table 21 AFTER_21 same_21
+
+same_22 : AFTER_22 ≡ of_bits 22 8
 unfolding shifted_by_eight shifted
-is_21 i below = after_at 21 AFTER_21 0 i i tt below (omega arith)
+same_22 = refl
 
 is_22 : IsTable 22 AFTER_22
+is_22 = is_table 22 AFTER_22 same_22
+
+same_23 : AFTER_23 ≡ of_bits 23 8
 unfolding shifted_by_eight shifted
-is_22 i below = after_at 22 AFTER_22 0 i i tt below (omega arith)
+same_23 = refl
 
 is_23 : IsTable 23 AFTER_23
+is_23 = is_table 23 AFTER_23 same_23
+
+same_24 : AFTER_24 ≡ of_bits 24 8
 unfolding shifted_by_eight shifted
-is_23 i below = after_at 23 AFTER_23 0 i i tt below (omega arith)
+same_24 = refl
 
 is_24 : IsTable 24 AFTER_24
-unfolding shifted_by_eight shifted
-is_24 i below = after_at 24 AFTER_24 0 i i tt below (omega arith)
+is_24 = is_table 24 AFTER_24 same_24
 
 pub by_one : (register : ℕ) → bit_xor (get_or AFTER_ONE (register % 256) 0) (register / 256) ≡ shifted_by_eight register
 by_one register =

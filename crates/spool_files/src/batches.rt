@@ -71,7 +71,8 @@ fn batch_of(octets: &[u8]) -> Option<(u32, &[u8], &[u8])>
     ensures { option_map (λ x. ((x.0, x.1.now), x.2.now)) result ≡ batch_at octets.now }
 {
     let (gate, rest) = first_of(octets)?;
-    if gate == 1 { frame_of(rest) } else { None }
+    let is_open = gate == 1;
+    if is_open { frame_of(rest) } else { None }
 }
 
 /// Reads the batches of a segment's file, up to the first gate that is not open or whose batch is not whole.

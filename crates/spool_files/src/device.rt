@@ -4,7 +4,7 @@ ghost use Rattle.std.specs.Prelude.{◌≡◌, ◌<◌, ◌≤◌, List, ℕ, le
 ghost use Rattle.spool_files.specs.Devices.{Only, Follows, Torn, Holds, Elapses};
 
 /// A step of a device that failed.
-#[derive(Clone, Copy, PartialEq, Eq)]
+#[derive(Clone, Copy)]
 pub enum Step {
     /// Octets were to be written.
     Write,
@@ -13,7 +13,7 @@ pub enum Step {
 }
 
 /// A device failed.
-#[derive(Clone, Copy, PartialEq, Eq)]
+#[derive(Clone, Copy)]
 pub struct DeviceFault {
     /// At which step.
     pub step: Step,

@@ -13,7 +13,7 @@ use crate::heads::{head_of, put_head};
 use std::alloc::{AllocError, AllocFailed, Global};
 
 /// Why octets were not read as entries.
-#[derive(Clone, Copy, PartialEq, Eq)]
+#[derive(Clone, Copy)]
 pub enum ReadError {
     /// Memory was refused.
     Memory,

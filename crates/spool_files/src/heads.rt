@@ -2,10 +2,9 @@
 
 ghost use Rattle.std.specs.Prelude.{◌≡◌, ◌∷◌, ◌++◌, OnOk};
 ghost use Rattle.std.specs.Option.{option_map};
-ghost use Rattle.std.specs.Int.{w64, to_be_bytes};
 ghost use Rattle.spool_files.specs.Entries.{key_octets, address_octets, begun_octets, came_octets, answered_octets};
 ghost use Rattle.spool_files.specs.Entries.{given_up_octets, head_octets, origin_octets, number_octets};
-ghost use Rattle.spool_files.specs.internal.Fields.{begun_at, came_at, answered_at, given_up_at, head_at};
+ghost use Rattle.spool_files.specs.internal.Fields.{as_at, begun_at, came_at, answered_at, given_up_at, head_at};
 
 use crate::entry::{Answered, Begun, Came, GivenUp, Head};
 use crate::fields::{address_of, first_of, key_of, u16_of, u64_of};
@@ -13,8 +12,8 @@ use rad_tables::Key;
 use std::alloc::AllocError;
 
 #[tactic(auto, unfolding(crate::specs::internal::Fields::begun_at))]
-fn begun_of(octets: &[u8]) -> Option<(Begun, &[u8])>
-    ensures { option_map (λ x. (x.0, x.1.now)) result ≡ begun_at octets.now }
+fn begun_of(octets: &[u8]) -> Option<(Head, &[u8])>
+    ensures { option_map (λ x. (x.0, x.1.now)) result ≡ as_at Head.Begun begun_at octets.now }
 {
     let (version, rest) = u16_of(octets)?;
     let (run, rest) = u64_of(rest)?;
@@ -24,12 +23,12 @@ fn begun_of(octets: &[u8]) -> Option<(Begun, &[u8])>
         run,
         number,
     };
-    Some((begun, rest))
+    Some((Head::Begun(begun), rest))
 }
 
 #[tactic(auto, unfolding(crate::specs::internal::Fields::came_at))]
-fn came_of(octets: &[u8]) -> Option<(Came, &[u8])>
-    ensures { option_map (λ x. (x.0, x.1.now)) result ≡ came_at octets.now }
+fn came_of(octets: &[u8]) -> Option<(Head, &[u8])>
+    ensures { option_map (λ x. (x.0, x.1.now)) result ≡ as_at Head.Came came_at octets.now }
 {
     let (key, rest) = key_of(octets)?;
     let (ours, rest) = address_of(rest)?;
@@ -47,12 +46,12 @@ fn came_of(octets: &[u8]) -> Option<(Came, &[u8])>
         number,
         moment,
     };
-    Some((came, rest))
+    Some((Head::Came(came), rest))
 }
 
 #[tactic(auto, unfolding(crate::specs::internal::Fields::answered_at))]
-fn answered_of(octets: &[u8]) -> Option<(Answered, &[u8])>
-    ensures { option_map (λ x. (x.0, x.1.now)) result ≡ answered_at octets.now }
+fn answered_of(octets: &[u8]) -> Option<(Head, &[u8])>
+    ensures { option_map (λ x. (x.0, x.1.now)) result ≡ as_at Head.Answered answered_at octets.now }
 {
     let (key, rest) = key_of(octets)?;
     let (run, rest) = u64_of(rest)?;
@@ -66,16 +65,16 @@ fn answered_of(octets: &[u8]) -> Option<(Answered, &[u8])>
         serial,
         moment,
     };
-    Some((answered, rest))
+    Some((Head::Answered(answered), rest))
 }
 
 #[tactic(auto, unfolding(crate::specs::internal::Fields::given_up_at))]
-fn given_up_of(octets: &[u8]) -> Option<(GivenUp, &[u8])>
-    ensures { option_map (λ x. (x.0, x.1.now)) result ≡ given_up_at octets.now }
+fn given_up_of(octets: &[u8]) -> Option<(Head, &[u8])>
+    ensures { option_map (λ x. (x.0, x.1.now)) result ≡ as_at Head.GivenUp given_up_at octets.now }
 {
     let (key, rest) = key_of(octets)?;
     let (moment, rest) = u64_of(rest)?;
-    Some((GivenUp { key, moment }, rest))
+    Some((Head::GivenUp(GivenUp { key, moment }), rest))
 }
 
 /// Reads a head from the front, and returns it with the octets behind it.
@@ -85,22 +84,10 @@ pub(crate) fn head_of(octets: &[u8]) -> Option<(Head, &[u8])>
 {
     let (kind, rest) = first_of(octets)?;
     match kind {
-        1 => {
-            let (begun, rest) = begun_of(rest)?;
-            Some((Head::Begun(begun), rest))
-        }
-        2 => {
-            let (came, rest) = came_of(rest)?;
-            Some((Head::Came(came), rest))
-        }
-        3 => {
-            let (answered, rest) = answered_of(rest)?;
-            Some((Head::Answered(answered), rest))
-        }
-        4 => {
-            let (given_up, rest) = given_up_of(rest)?;
-            Some((Head::GivenUp(given_up), rest))
-        }
+        1 => begun_of(rest),
+        2 => came_of(rest),
+        3 => answered_of(rest),
+        4 => given_up_of(rest),
         _ => None,
     }
 }
@@ -140,18 +127,16 @@ fn kind_and_key(kind: u8, key: &Key) -> [u8; 24]
     ]
 }
 
-fn put_u64(octets: &mut Vec<u8>, number: u64) -> Result<(), AllocError>
-    ensures { OnOk result (octets.new.items ≡ octets.old.items ++ to_be_bytes w64 number) }
-{
-    octets.extend_from_slice(&number.to_be_bytes())
-}
-
 fn put_begun(octets: &mut Vec<u8>, begun: &Begun) -> Result<(), AllocError>
-    ensures { OnOk result (octets.new.items ≡ octets.old.items ++ begun_octets begun.now) }
+    ensures { OnOk result (octets.new.items ≡ octets.old.items ++ 1 ∷ begun_octets begun.now) }
 {
-    octets.extend_from_slice(&begun.version.to_be_bytes())?;
-    put_u64(octets, begun.run)?;
-    put_u64(octets, begun.number)
+    let v = begun.version.to_be_bytes();
+    let r = begun.run.to_be_bytes();
+    let n = begun.number.to_be_bytes();
+    octets.extend_from_slice(&[
+        1, v[0], v[1], r[0], r[1], r[2], r[3], r[4], r[5], r[6], r[7], n[0], n[1], n[2], n[3],
+        n[4], n[5], n[6], n[7],
+    ])
 }
 
 /// Puts which run and lane an entry is of, its number or serial there, and its moment.
@@ -216,7 +201,7 @@ fn put_given_up(octets: &mut Vec<u8>, given_up: &GivenUp) -> Result<(), AllocErr
     ensures { OnOk result (octets.new.items ≡ octets.old.items ++ 4 ∷ given_up_octets given_up.now) }
 {
     octets.extend_from_slice(&kind_and_key(4, &given_up.key))?;
-    put_u64(octets, given_up.moment)
+    octets.extend_from_slice(&given_up.moment.to_be_bytes())
 }
 
 /// Puts a head behind the octets.
@@ -224,10 +209,7 @@ pub(crate) fn put_head(octets: &mut Vec<u8>, head: &Head) -> Result<(), AllocErr
     ensures { OnOk result (octets.new.items ≡ octets.old.items ++ head_octets head.now) }
 {
     match head {
-        Head::Begun(begun) => {
-            octets.push(1)?;
-            put_begun(octets, begun)
-        }
+        Head::Begun(begun) => put_begun(octets, begun),
         Head::Came(came) => put_came(octets, came),
         Head::Answered(answered) => put_answered(octets, answered),
         Head::GivenUp(given_up) => put_given_up(octets, given_up),

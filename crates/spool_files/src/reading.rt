@@ -3,11 +3,12 @@
 ghost use Rattle.std.specs.Prelude.{◌≡◌, List, IfOk, IsErrOf};
 ghost use Rattle.spool_files.specs.CheckSums.{crc32};
 ghost use Rattle.spool_files.specs.Entries.{Entry, Spells, views};
-ghost use Rattle.spool_files.specs.Reading.{beginning_fault};
+ghost use Rattle.spool_files.specs.Reading.{beginning_fault, fault_name};
 ghost use Rattle.spool_files.specs.declared.reading.BatchError.TheVariants.{Memory};
 
-use crate::batches::{is_sound, read_batches};
+use crate::batches::{FoundBatches, is_sound, read_batches};
 use crate::counting::{Counted, sort_by_arrival};
+use crate::device::Device;
 use crate::entries::{ReadError, read_entries};
 use crate::entry::Head;
 use crate::folder::{find_segment, segment_numbers};
@@ -36,7 +37,9 @@ pub enum FaultKind {
 
 impl FaultKind {
     /// Returns the name of the fault.
-    pub fn name(self) -> &'static str {
+    pub fn name(self) -> &'static str
+        ensures { result.now ≡ fault_name self }
+    {
         match self {
             FaultKind::WrongSum => "wrong sum",
             FaultKind::NotEntries => "not entries",
@@ -49,7 +52,7 @@ impl FaultKind {
 
 /// Something is wrong with a segment: its disk lies, or another hand wrote it. No crash leaves it so. What else is in the
 /// segment was read; as long as there is a fault, no segment should be removed.
-#[derive(Clone, Copy, PartialEq, Eq)]
+#[derive(Clone, Copy)]
 pub struct Fault {
     /// The segment's number.
     pub segment: u64,
@@ -60,7 +63,7 @@ pub struct Fault {
 }
 
 /// Why a batch was not read.
-#[derive(Clone, Copy, PartialEq, Eq)]
+#[derive(Clone, Copy)]
 pub enum BatchError {
     /// Memory was refused.
     Memory,
@@ -131,50 +134,97 @@ pub fn read_segment(
     file: &[u8],
 ) -> Result<SegmentRead<'_>, AllocError> {
     let found = read_batches(alloc, file)?;
-    let mut entries = Vec::new(alloc);
-    let mut faults = Vec::new(alloc);
-    let mut offset = 0_usize;
-    for batch in &found.batches {
-        let (check, body) = *batch;
-        let kind = match read_batch(alloc, check, body) {
-            Ok(read) => {
-                let kind = if offset == 0 {
-                    fault_of_first(number, &read)
-                } else {
-                    None
-                };
-                if kind == Some(FaultKind::LaterVersion) {
-                    faults.push(Fault {
-                        segment: number,
-                        offset,
-                        kind: FaultKind::LaterVersion,
-                    })?;
-                    return Ok(SegmentRead { entries, faults });
-                }
-                entries.extend_from_slice(&read)?;
-                kind
-            }
-            Err(BatchError::Memory) => return Err(AllocError),
-            Err(BatchError::WrongSum) => Some(FaultKind::WrongSum),
-            Err(BatchError::NotEntries) => Some(FaultKind::NotEntries),
-        };
-        if let Some(kind) = kind {
-            faults.push(Fault {
-                segment: number,
-                offset,
-                kind,
-            })?;
-        }
-        offset = offset.saturating_add(9).saturating_add(body.len());
+    let mut read = SegmentRead {
+        entries: Vec::new(alloc),
+        faults: Vec::new(alloc),
+    };
+    let is_cut = file.get(found.end) == Some(&1);
+    match read.take_batches(alloc, number, &found, is_cut) {
+        Ok(()) => Ok(read),
+        Err(error) => Err(error),
     }
-    if file.get(found.end) == Some(&1) {
-        faults.push(Fault {
+}
+
+impl<'a> SegmentRead<'a> {
+    /// Takes the batches of a segment that were found, behind which one is cut short or not.
+    fn take_batches(
+        &mut self,
+        alloc: Global,
+        number: u64,
+        found: &FoundBatches<'a>,
+        is_cut: bool,
+    ) -> Result<(), AllocError> {
+        let mut place = Place {
             segment: number,
-            offset: found.end,
-            kind: FaultKind::CutShort,
-        })?;
+            offset: 0,
+        };
+        for batch in &found.batches {
+            let (check, body) = *batch;
+            if !self.take_batch(alloc, place, check, body)? {
+                return Ok(());
+            }
+            place.offset = place.offset.saturating_add(9).saturating_add(body.len());
+        }
+        if is_cut {
+            place.offset = found.end;
+            self.add(place, FaultKind::CutShort)?;
+        }
+        Ok(())
     }
-    Ok(SegmentRead { entries, faults })
+
+    /// Takes a batch. Returns whether to read on.
+    fn take_batch(
+        &mut self,
+        alloc: Global,
+        place: Place,
+        check: u32,
+        body: &'a [u8],
+    ) -> Result<bool, AllocError> {
+        match read_batch(alloc, check, body) {
+            Ok(entries) => self.take_entries(place, &entries),
+            Err(BatchError::Memory) => Err(AllocError),
+            Err(BatchError::WrongSum) => self.add(place, FaultKind::WrongSum),
+            Err(BatchError::NotEntries) => self.add(place, FaultKind::NotEntries),
+        }
+    }
+
+    /// Takes the entries of a sound batch, unless they are of a later version. Returns whether to read on.
+    fn take_entries(
+        &mut self,
+        place: Place,
+        entries: &[(Head, &'a [u8])],
+    ) -> Result<bool, AllocError> {
+        if place.offset == 0
+            && let Some(kind) = fault_of_first(place.segment, entries)
+        {
+            self.add(place, kind)?;
+            if kind == FaultKind::LaterVersion {
+                return Ok(false);
+            }
+        }
+        self.entries.extend_from_slice(entries)?;
+        Ok(true)
+    }
+
+    /// Adds a fault. Returns that the next batches are to be read.
+    fn add(&mut self, place: Place, kind: FaultKind) -> Result<bool, AllocError> {
+        let Place { segment, offset } = place;
+        self.faults.push(Fault {
+            segment,
+            offset,
+            kind,
+        })?;
+        Ok(true)
+    }
+}
+
+/// Where a batch begins.
+#[derive(Clone, Copy)]
+struct Place {
+    /// The segment's number.
+    segment: u64,
+    /// Where in its file.
+    offset: usize,
 }
 
 /// What was read of a spool.
@@ -217,10 +267,25 @@ pub fn count_segment<R: Files + AllocGlobal>(
 ) -> io::Result<Vec<Fault>> {
     let alloc = rt.alloc();
     let (mut device, octets) = find_segment(rt, alloc, folder, number)?;
-    if let Err(error) = recover(alloc, &mut device, &octets) {
+    count_found(alloc, &mut device, &octets, number, (now, span), counted)
+}
+
+/// Counts the entries of a segment's file that was found, until a moment and for a span.
+fn count_found<D: Device>(
+    alloc: Global,
+    device: &mut D,
+    file: &[u8],
+    number: u64,
+    until: (u64, u64),
+    counted: &mut Counted,
+) -> io::Result<Vec<Fault>>
+    requires { file.now ≡ D.seen device.old }
+{
+    if let Err(error) = recover(alloc, device, file) {
         return Err(error.as_io());
     }
-    let read = read_segment(alloc, number, &octets)?;
+    let read = read_segment(alloc, number, file)?;
+    let (now, span) = until;
     for entry in read.entries.iter().rev() {
         let (head, text) = *entry;
         counted.count(alloc, now, span, &head, text)?;
@@ -244,13 +309,16 @@ pub fn read_spool<R>(
 where
     R: Files + AllocGlobal + Copy,
 {
+    let segments = segment_numbers(rt, alloc, folder)?;
     let mut read = SpoolRead {
         counted: Counted::new(alloc),
         faults: Vec::new(alloc),
-        segments: segment_numbers(rt, alloc, folder)?,
+        segments,
     };
-    read_segments(rt, folder, now, span, &mut read)?;
-    Ok(read)
+    match read_segments(rt, folder, now, span, &mut read) {
+        Ok(()) => Ok(read),
+        Err(error) => Err(error),
+    }
 }
 
 /// Reads the segments of a spool.

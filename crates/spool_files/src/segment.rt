@@ -21,7 +21,7 @@ pub const MOST_OCTETS: usize = 1 << 24;
 const BESIDE: usize = 10;
 
 /// Why a batch was not appended, or a segment not read.
-#[derive(Clone, Copy, PartialEq, Eq)]
+#[derive(Clone, Copy)]
 pub enum AppendError {
     /// Memory was refused.
     Memory,
