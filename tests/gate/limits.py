@@ -144,7 +144,7 @@ NUMBERS = {
         "OTHERS": ("0o077", "ledger/resumed a_folder_of_another_process_or_for_others_is_refused"),
     },
     "spool_writer/src/surveying.rt": {"TRIES": ("5", CHOICE)},
-    "spool_writer/src/writer.rt": {"AGAIN": ("1000", CHOICE), "BATCH": ("1 << 22", CHOICE), "GREATEST_REQUEST": ("4096", PROVED), "LOOK": ("20", CHOICE), "PAUSE": ("50", CHOICE)},
+    "spool_writer/src/writer.rt": {"AGAIN": ("1000", CHOICE), "BATCH": ("1 << 22", CHOICE), "GREATEST_REQUEST": ("4096", PROVED), "LOOK": ("20", CHOICE), "LOOKS": ("5", CHOICE), "MUCH": ("200", CHOICE), "PAUSE": ("50", CHOICE)},
     "ledger_writer/src/filling.rt": {"SIZE": ("262_144", CHOICE), "LINES": ("1024", CHOICE)},
     "ledger_writer/src/inlet.rt": {"LOOK": ("1", CHOICE), "DUE": ("16", CHOICE), "MOST_LOST": ("256", FORM)},
     "ledger_writer/src/record_counts.rt": {

@@ -162,9 +162,10 @@ class Resumed(Proxy):
             return self.on_disk()
 
     def kept(self):
-        """The keys of the requests that came, and of those that were answered, by what is on disk."""
+        """The keys of the requests that came, and of those that were answered, by what is on disk: of some there is the answer alone."""
         entries = self.on_disk()
-        return [{fields[:4] for name, fields, _ in entries if name == kind} for kind in ("came", "answered")]
+        came, answered = ({fields[:4] for name, fields, _ in entries if name == kind} for kind in ("came", "answered"))
+        return came | answered, answered
 
     def octets_on_disk(self):
         return sum(file.stat().st_size for file in self.spool.glob("*.spool"))
@@ -172,6 +173,10 @@ class Resumed(Proxy):
     def has_on_disk(self, came, answered=0):
         """Waits until so many requests and so many of their answers are on disk."""
         until("all is on disk", lambda: tuple(map(len, self.kept())) == (came, answered))
+
+    def has_open_on_disk(self, count):
+        """Waits until so many are open by what is on disk, though segments may go meanwhile."""
+        until(f"{count} are open", lambda: len(set.difference(*self.kept())) == count)
 
     def serve(self, counts, patience=PATIENCE, again=()):
         """The home servers answer all that comes until each had so many sessions, and these are given in the order in which they came.
@@ -542,8 +547,9 @@ def new_requests_wait_behind_those_of_earlier_runs(proxy):
     hope("refused", proxy.counter("client_refused_total"), before + 4)
     hope("sessions", proxy.serve([300 + QUEUE, 3]), [list(range(300 + QUEUE)), list(range(3))])
     proxy.has_on_disk(303 + QUEUE, 303 + QUEUE)
-    proxy.homes[0].hear()
-    proxy.homes[0].came.clear()
+    for home in proxy.homes:
+        home.hear()
+        home.came.clear()
     last = proxy.ask(1)
     hope("sessions", proxy.serve([1, 0]), [[session_in(last[0])], []])
 
@@ -931,22 +937,37 @@ def a_full_spool_is_told_once(proxy):
 
 
 def a_small_spool_lets_go_of_what_is_over(proxy):
-    """A spool of less than a segment's greatest length lets go of what is over, also behind a request that stays open, which a kill leaves."""
-    proxy.file.write_text(proxy.configuration(HASTY + "span = 0\n"), "utf-8")
+    """A spool of less than a segment's greatest length lets go of what is over, also behind a request that stays open, which a kill leaves. Most
+    answers stand in another segment than their requests."""
+    proxy.file.write_text(proxy.configuration("first_wait = 60000\nwindow = 254\nspan = 0\n"), "utf-8")
     proxy.begin(RAD_PROXY_SPOOL_LIMIT=str(SMALL))
     proxy.ask(1, lane=1)
     proxy.has_on_disk(1)
-    silent = proxy.homes.pop()
-    for first in range(0, 20 * BURST, BURST):
-        proxy.ask(BURST)
-        hope("sessions", proxy.serve([BURST]), [list(range(first, first + BURST))])
-        time.sleep(0.2)
+    for turn in range(1, 6):
+        proxy.ask(4 * BURST)
+        until("they came", lambda: len(proxy.homes[0].requests()) == 4 * BURST * turn)
+        time.sleep(0.1)
+        for place, (packet, sender) in enumerate(proxy.homes[0].requests()[-4 * BURST:]):
+            proxy.homes[0].answer(packet, sender)
+            if place % BURST == BURST - 1:
+                time.sleep(0.1)
+    proxy.has_open_on_disk(1)
     until("what is over goes", lambda: proxy.octets_on_disk() < SMALL / 2)
     hope("faults", proxy.lines("spool-fault"), [])
-    proxy.homes.append(silent)
     proxy.dies()
     proxy.begin(RAD_PROXY_SPOOL_LIMIT=str(SMALL))
     hope("sessions", proxy.serve([0, 1]), [[], [0]])
+
+
+def each_segment_goes_once_all_of_it_is_over(proxy):
+    """Of a spool whose requests are all answered, and whose answers are over, the newest segment alone stays."""
+    proxy.file.write_text(proxy.configuration(HASTY + "span = 0\n"), "utf-8")
+    proxy.begin(RAD_PROXY_SPOOL_LIMIT=str(SMALL))
+    for first in range(0, 8 * BURST, BURST):
+        proxy.ask(BURST)
+        hope("sessions", proxy.serve([BURST, 0]), [list(range(first, first + BURST)), []])
+        proxy.has_open_on_disk(0)
+    until("what is over goes", lambda: len(list(proxy.spool.glob("*.spool"))) == 1)
 
 
 def a_repeat_of_what_was_answered_does_not_wait_behind_others(proxy):
@@ -1042,7 +1063,7 @@ TESTS = [
     each_damage_of_one_of_three_segments_is_told_and_the_rest_arrives, a_clock_that_was_set_between_two_runs_loses_nothing,
     each_change_of_the_configuration_keeps_what_waits, one_home_server_that_is_away_holds_up_no_other, the_longest_request_arrives_whole,
     a_drain_leaves_what_waits_in_the_spool, a_repeat_is_known_wherever_its_request_is, a_spool_at_its_limit_is_told_and_the_service_goes_on,
-    a_full_spool_is_told_once, a_small_spool_lets_go_of_what_is_over, a_repeat_of_what_was_answered_does_not_wait_behind_others, a_folder_that_is_removed_is_told,
+    a_full_spool_is_told_once, a_small_spool_lets_go_of_what_is_over, each_segment_goes_once_all_of_it_is_over, a_repeat_of_what_was_answered_does_not_wait_behind_others, a_folder_that_is_removed_is_told,
     what_was_answered_does_not_come_again_after_a_fault, a_segment_that_is_in_the_way_stays, a_clock_that_was_ahead_once_does_not_fill_the_disk,
 ]
 

@@ -15,6 +15,8 @@ from tests.ledger.resumed import HASTY, Resumed
 DAY = 86_400
 # How many requests that would be dropped are named, and how often `check` looks at a spool that is written meanwhile.
 NAMED, LOOKS = 20, 12
+# How many milliseconds a sync takes that is slow.
+SLOW = 600
 
 
 def number(proxy, name):
@@ -53,6 +55,7 @@ def its_metrics_stand_behind_all_others(proxy):
     proxy.begin()
     began = time.time()
     proxy.ask(4)
+    proxy.has_on_disk(4)
     hope("sessions", proxy.serve([4, 0]), [[0, 1, 2, 3], []])
     proxy.ask(3, lane=1)
     proxy.has_on_disk(7, 4)
@@ -101,6 +104,20 @@ def a_disk_that_hangs_is_in_the_metrics(proxy):
     hope("open ones that are not on disk", (number(proxy, "unsynced_requests"), number(proxy, "failing")), (10, 0))
     mark.unlink()
     until("it is back", lambda: numbers(proxy, "open_requests", "unsynced_requests") == (12, 0) and number(proxy, "unsynced_seconds") < 2)
+
+
+def what_comes_during_a_sync_is_behind_by_that_sync(proxy):
+    """While each sync takes its time, and requests come, the time since all were on disk is never shorter than what a batch takes: two syncs."""
+    proxy.begin(LD_PRELOAD=built(proxy.room, "slow_files"), SLOW_PATH=str(proxy.spool), SLOW_SYNC=str(SLOW))
+    ages, texts, last = [], set(), time.monotonic() + PATIENCE
+    while len(texts) < 8 and time.monotonic() < last:
+        proxy.ask(1)
+        time.sleep(0.05)
+        if proxy.counters.exists() and proxy.counters.stat().st_mtime_ns not in texts:
+            texts.add(proxy.counters.stat().st_mtime_ns)
+            ages.append(number(proxy, "unsynced_seconds"))
+    # The first segment is made before, and the program's own time since its start counts until then.
+    hope(f"ages {ages}", min(ages[3:]) >= 2 * SLOW / 1000, True)
 
 
 def what_is_dropped_and_what_has_to_wait_is_counted(proxy):
@@ -213,7 +230,7 @@ def a_clock_that_is_set_is_told(proxy):
 
 TESTS = [
     its_metrics_stand_behind_all_others, a_disk_that_fails_is_in_the_metrics, a_disk_that_hangs_is_in_the_metrics,
-    what_is_dropped_and_what_has_to_wait_is_counted, check_tells_what_waits_and_what_would_be_dropped, check_tells_nothing_where_nothing_waits,
+    what_comes_during_a_sync_is_behind_by_that_sync, what_is_dropped_and_what_has_to_wait_is_counted, check_tells_what_waits_and_what_would_be_dropped, check_tells_nothing_where_nothing_waits,
     check_tells_of_damage_and_of_no_cut_end, check_reads_a_spool_that_is_written_meanwhile, a_clock_that_is_set_is_told,
 ]
 

@@ -20,7 +20,7 @@ pub data Happening : Type 0 where
   accepts : Entry → (handed : Bool) → (moment : ℕ) → (next : ℕ) → Happening
   -- an answer, or a giving-up, is handed over or lost
   closes : Entry → (handed : Bool) → Happening
-  -- while the disk fails, the thread lets go of the entries that do not pass a test: they need not be written any more
+  -- the thread lets go of the entries that do not pass a test: they need not be written any more
   lets_go : (kept : Entry → Bool) → Happening
   -- so many of the entries that were handed over are written and synced as a batch
   syncs : ℕ → Happening

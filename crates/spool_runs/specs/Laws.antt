@@ -30,8 +30,7 @@ NoneIsLost world =
     → is_request request ≡ true
     → IsAnsweredIn world.told request ⊎ IsKept world request
 
--- When a run ends in order, each request that it had is among those that were not handed over, or was synced, or was answered
--- while the disk failed.
+-- When a run ends in order, each request that it had is among those that were not handed over, or was synced, or was answered.
 abbrev pub AStopLosesNone : World → World → Type 0
 AStopLosesNone old new =
     Happens old ends new

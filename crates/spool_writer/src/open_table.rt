@@ -29,7 +29,7 @@ pub(crate) struct Place {
 #[derive(Drop)]
 pub(crate) struct OpenTable {
     places: BTreeMap<Key, Place>,
-    /// When each of them came in, by its place among the requests of all runs.
+    /// When each came in of those that are noted, by its place among the requests of all runs.
     moments: BTreeMap<u64, u64>,
     /// How many octets they have.
     octets: u64,
@@ -68,7 +68,7 @@ impl OpenTable {
         self.unsynced
     }
 
-    /// Returns when the first of them came in, in milliseconds since 1970.
+    /// Returns when the first of those that are noted came in, in milliseconds since 1970.
     pub(crate) fn oldest(&self) -> Option<u64> {
         let (_, moment) = self.moments.first_key_value()?;
         Some(*moment)
@@ -80,15 +80,21 @@ impl OpenTable {
     ///
     /// If memory is refused. The table has as many as before.
     pub(crate) fn open(&mut self, key: Key, place: Place) -> Result<(), AllocError> {
-        self.moments.insert(place.arrival, place.moment)?;
-        if self.places.insert(key, place).is_err() {
-            self.moments.remove(&place.arrival);
-            return Err(AllocError);
-        }
+        self.places.insert(key, place)?;
         self.octets = self.octets.saturating_add(place.octets);
         if !is_synced(place.segment) {
             self.unsynced = self.unsynced.saturating_add(1);
         }
+        Ok(())
+    }
+
+    /// Notes when an open request came in. Most are answered before they are written, so it is noted then.
+    ///
+    /// # Errors
+    ///
+    /// If memory is refused.
+    pub(crate) fn note(&mut self, arrival: u64, moment: u64) -> Result<(), AllocError> {
+        self.moments.insert(arrival, moment)?;
         Ok(())
     }
 

@@ -289,6 +289,7 @@ impl FoundSpool {
                 octets: request.octets.len() as u64,
             };
             self.table.open(request.came.key, place)?;
+            self.table.note(place.arrival, place.moment)?;
             count = count.saturating_add(1);
         }
         Ok(count)

@@ -24,12 +24,20 @@ use spool_files::{
 use std::alloc::{AllocError, Global};
 use std::io::ErrorKind;
 use std::marker::Sync;
+use std::mem;
 use std::sync::{Arc, Wait};
 use std::thread::{self, Threads};
 use std::time::{Clock, Duration, Instant};
 
 /// How many milliseconds pass from one batch to the next.
 const PAUSE: u64 = 50;
+
+/// How many times the rings are looked at from one batch to the next while much comes, so that none of the thread's work takes
+/// long.
+const LOOKS: u64 = 5;
+
+/// How many entries are much from one batch to the next.
+const MUCH: u64 = 200;
 
 /// How many milliseconds after a fault the thread tries again.
 const AGAIN: u64 = 1000;
@@ -77,6 +85,11 @@ pub struct SpoolSession<'a, R, D: SpoolDisk + Drop> {
     waiting: Vec<Waiting>,
     /// Where the body of a batch is made.
     body: Vec<u8>,
+    /// How many entries were taken out of the rings since the last batch, and before it.
+    came: u64,
+    came_before: u64,
+    /// Whether memory was refused for an entry since the last round.
+    is_short: bool,
     /// Whether the last round failed.
     is_failing: bool,
     /// How many octets have to be free before something is written after a fault.
@@ -137,6 +150,10 @@ impl SpoolWriter {
                 session.its.state.finish();
                 return;
             }
+            for _ in 1..session.looks() {
+                session.its.state.sleep(rt, PAUSE / LOOKS);
+                session.take_all();
+            }
             let pause = session.pause(began);
             session.its.state.sleep(rt, pause);
         }
@@ -154,6 +171,9 @@ impl<'a, R, D: SpoolDisk + Drop> SpoolSession<'a, R, D> {
             segment: None,
             waiting: Vec::new(alloc),
             body: Vec::new(alloc),
+            came: 0,
+            came_before: 0,
+            is_short: false,
             is_failing: false,
             reserve: 0,
             is_torn: false,
@@ -175,6 +195,15 @@ impl<R: Clock, D: SpoolDisk + Drop> SpoolSession<'_, R, D> {
         u64::try_from(left.as_millis()).unwrap_or(PAUSE).max(1)
     }
 
+    /// Returns how many times the rings are to be looked at before the next batch.
+    fn looks(&self) -> u64 {
+        if self.is_failing || self.came_before < MUCH {
+            1
+        } else {
+            LOOKS
+        }
+    }
+
     /// Takes what came, writes it, and removes what no longer counts. Reports whether that failed.
     pub fn do_round(&mut self) {
         let began = self.now();
@@ -182,6 +211,7 @@ impl<R: Clock, D: SpoolDisk + Drop> SpoolSession<'_, R, D> {
             Ok(()) => self.succeed(),
             Err(fault) => self.fail(fault),
         }
+        let oldest = self.oldest();
         let its = &self.its;
         its.state.end_round(RoundEnd {
             open: its.table.len() as u64,
@@ -189,9 +219,29 @@ impl<R: Clock, D: SpoolDisk + Drop> SpoolSession<'_, R, D> {
             unsynced: its.table.unsynced(),
             synced: (!self.is_failing).then_some(began),
             waiting: self.waiting.len() as u64,
-            oldest: its.table.oldest(),
+            oldest,
             octets: total(&its.segments),
         });
+    }
+
+    /// Returns when the first open request came in, in milliseconds since 1970. What waits came in behind what was written.
+    fn oldest(&self) -> Option<u64> {
+        let Some(oldest) = self.its.table.oldest() else {
+            return self.first_waiting();
+        };
+        Some(oldest)
+    }
+
+    /// Returns when the first open request came in of those that wait.
+    fn first_waiting(&self) -> Option<u64> {
+        for waiting in &self.waiting {
+            if let Head::Came(came) = &waiting.parcel.head
+                && is_open(&self.its.table, came)
+            {
+                return Some(came.moment);
+            }
+        }
+        None
     }
 
     /// Reports a fault, if the round before did not fail. A spool that is full is written again once it has room for more than a
@@ -218,11 +268,15 @@ impl<R: Clock, D: SpoolDisk + Drop> SpoolSession<'_, R, D> {
 
     /// Removal goes on while the disk is full, since it makes room.
     fn write_round(&mut self) -> Result<(), SpoolFault> {
-        let taken = self.take_all();
+        self.take_all();
+        self.came_before = mem::replace(&mut self.came, 0);
+        let is_short = mem::replace(&mut self.is_short, false);
         self.look_for_newest()?;
         let written = self.write_all_waiting();
         let removed = self.remove_old();
-        taken?;
+        if is_short {
+            return Err(SpoolFault::Memory);
+        }
         written?;
         removed
     }
@@ -250,8 +304,8 @@ impl<R: Clock, D: SpoolDisk + Drop> SpoolSession<'_, R, D> {
 
     /// Writes all that waits. After a fault it begins a segment, even if nothing waits.
     fn write_all_waiting(&mut self) -> Result<(), SpoolFault> {
+        self.let_go();
         if self.is_failing {
-            self.let_go();
             self.check_limit(self.reserve)?;
             if self.segment.is_none() {
                 self.begin_segment()?;
@@ -267,19 +321,18 @@ impl<R: Clock, D: SpoolDisk + Drop> SpoolSession<'_, R, D> {
 }
 
 impl<R: Clock, D: SpoolDisk + Drop> SpoolSession<'_, R, D> {
-    /// Takes all that is in the rings.
-    fn take_all(&mut self) -> Result<(), SpoolFault> {
-        let mut outcome = Ok(());
+    /// Takes all that is in the rings. If memory is refused for an entry, the next round fails.
+    fn take_all(&mut self) {
         for _ in 0..self.its.outlet.look() {
             let Some(parcel) = self.its.outlet.take() else {
                 break;
             };
+            self.came = self.came.saturating_add(1);
             if self.enter(parcel).is_err() {
                 self.its.state.count_lost_request();
-                outcome = Err(SpoolFault::Memory);
+                self.is_short = true;
             }
         }
-        outcome
     }
 
     /// Notes what a parcel opens or closes. It is to be written, unless the spool has it, or needs it no more.
@@ -326,19 +379,20 @@ impl<R: Clock, D: SpoolDisk + Drop> SpoolSession<'_, R, D> {
         }
     }
 
-    /// Lets go of what need not be written: of requests that are no longer open, and of answers to requests that are on no
-    /// disk.
+    /// Lets go of what need not be written: of requests that are no longer open, since their answers are written, and, if the
+    /// disk fails, of answers to requests that are on no disk.
     fn let_go(&mut self) {
-        let table = &self.its.table;
-        self.waiting.retain(|waiting| is_needed(table, waiting));
+        let (table, is_failing) = (&self.its.table, self.is_failing);
+        self.waiting
+            .retain(|waiting| is_needed(table, is_failing, waiting));
     }
 }
 
-/// Returns whether what waits is to be written though the disk failed.
-fn is_needed(table: &OpenTable, waiting: &Waiting) -> bool {
+/// Returns whether what waits is to be written.
+fn is_needed(table: &OpenTable, is_failing: bool, waiting: &Waiting) -> bool {
     match &waiting.parcel.head {
         Head::Came(came) => is_open(table, came),
-        _ => waiting.closes != 0,
+        _ => waiting.closes != 0 || !is_failing,
     }
 }
 
@@ -368,6 +422,7 @@ impl<R: Clock, D: SpoolDisk + Drop> SpoolSession<'_, R, D> {
         let Ok(count) = put_entries(&mut self.body, &self.waiting, BATCH) else {
             return Err(SpoolFault::Memory);
         };
+        self.note(count)?;
         if let Err(fault) = self.append_body() {
             self.doubt(count);
             return Err(fault);
@@ -375,6 +430,18 @@ impl<R: Clock, D: SpoolDisk + Drop> SpoolSession<'_, R, D> {
         self.settle(count);
         let count = count.min(self.waiting.len());
         self.waiting.drain(..count);
+        Ok(())
+    }
+
+    /// Notes when the first requests of what waits came in.
+    fn note(&mut self, count: usize) -> Result<(), SpoolFault> {
+        for waiting in self.waiting.iter().take(count) {
+            if let Head::Came(came) = &waiting.parcel.head
+                && self.its.table.note(came.arrival, came.moment).is_err()
+            {
+                return Err(SpoolFault::Memory);
+            }
+        }
         Ok(())
     }
 

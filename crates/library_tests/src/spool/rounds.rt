@@ -193,6 +193,7 @@ impl<'a> Ground<'a> {
 enum Story {
     Comes,
     ComesAgain,
+    IsAnswered,
     Fails,
     IsAsked,
     Fills,
@@ -204,6 +205,7 @@ impl Story {
         match self {
             Story::Comes => comes(bench) == 1,
             Story::ComesAgain => comes_again(bench),
+            Story::IsAnswered => is_answered(bench),
             Story::Fails => fails_and_is_back(bench, memory),
             Story::IsAsked => has_all_later(bench, memory),
             Story::Fills => fills_a_segment(bench, memory),
@@ -230,6 +232,24 @@ fn comes_again(bench: &mut Bench<'_, MemoryDisk>) -> bool {
     bench.answer(1);
     bench.ask(1, 2000, false);
     bench.go_on().written == 3
+}
+
+/// A request that is answered before it is written needs no place on the disk. Its answer does.
+#[test]
+fn an_answer_alone_is_written_of_what_is_answered_at_once(rt: HostRuntime) -> Result<(), Fail> {
+    let is_right = plays(&rt, AMPLE, Story::IsAnswered, &[2])?;
+    holds(&rt, is_right);
+    Ok(())
+}
+
+fn is_answered(bench: &mut Bench<'_, MemoryDisk>) -> bool {
+    bench.ask(1, 1000, false);
+    bench.ask(2, 2000, false);
+    bench.ask(3, 3000, false);
+    bench.answer(3);
+    bench.answer(1);
+    let first = bench.go_on();
+    first.written == 3 && first.open == 1 && first.age == 8000
 }
 
 /// Also the answer to the second request, which may be on disk.
