@@ -198,11 +198,11 @@ def the_life():
 
 # The column and the row of each crate.
 PLACES = {
-    "rad_proxy": (2, 0), "library_tests": (3, 0),
+    "rad_proxy": (2, 0), "library_tests": (3, 0), "rad_simulation": (4, 0),
     "rad_telemetry": (2, 1), "memory_disk": (3, 1), "ledger_writer": (4, 1), "rad_audit": (5, 1),
     "config_json": (0, 2), "rad_replay": (1, 2), "rad_server": (2, 2), "spool_writer": (3, 2), "ledger_lines": (4, 2), "ledger_files": (5, 2),
     "rad_console": (2, 3), "rad_metrics": (3, 3), "ledger_rules": (4, 3),
-    "rad_advice": (0, 4), "rad_addresses": (1, 4), "ledger_state": (2, 4), "spool_runs": (4, 4), "rad_simulation": (5, 4),
+    "rad_advice": (0, 4), "rad_addresses": (1, 4), "ledger_state": (2, 4), "spool_runs": (4, 4),
     "rad_desk": (3, 5), "rad_network": (4, 5),
     "json_objects": (5, 6), "rad_log": (1, 6), "locked_lanes": (3, 6), "rad_progress": (4, 6),
     "rad_lane": (3, 7), "spool_files": (5, 7),

@@ -3,7 +3,7 @@
 use rad_desk::{Call, DeskFault, Go, Repeat, UpReason, WorkerReport};
 use rad_lane::Refusal;
 use rad_realms::{Dropped, Endpoint};
-use rad_tables::Slot;
+use rad_tables::{Key, Slot};
 use std::alloc::{AllocError, Global};
 
 /// The result of a receive.
@@ -141,7 +141,17 @@ pub struct DownBy {
     pub age: u64,
 }
 
-/// One call of a wire or of a gate.
+/// A response that the front hands over to the spool.
+#[derive(Drop)]
+pub struct Keeping {
+    /// The key of the request that it answers.
+    pub key: Key,
+    pub response: Vec<u8>,
+    /// How many milliseconds had passed since the beginning.
+    pub passed: u64,
+}
+
+/// One call of a wire or of a gate, or of a ledger.
 #[derive(Drop)]
 pub enum TraceEvent {
     /// The wire returned this from a receive, and from then on it is this moment.
@@ -154,4 +164,6 @@ pub enum TraceEvent {
     Signed(Sign, Vec<u8>),
     /// The gate was notified that the home server is marked down, by this request.
     WentDown(Option<DownBy>),
+    /// The ledger was given this.
+    Kept(Keeping),
 }

@@ -20,7 +20,7 @@ const MARK_LENGTH: usize = 10;
 
 /// A valid datagram of a client.
 #[derive(Drop)]
-enum Kind<'a> {
+pub enum Kind<'a> {
     /// A request that leads to the lane at this place.
     Request(usize, PacketRef<'a>),
     /// A Status-Server that is valid under this secret.
@@ -65,7 +65,7 @@ impl Books {
     }
 
     /// Returns what a datagram is, or why it is dropped.
-    fn kind_of<'a>(&self, mail: &'a Mail) -> Result<Kind<'a>, Dropped> {
+    pub fn kind_of<'a>(&self, mail: &'a Mail) -> Result<Kind<'a>, Dropped> {
         let Some(secret) = client_secret(mail.from.address) else {
             return Err(Dropped::UnknownClient);
         };

@@ -7,6 +7,10 @@
 //! After each call, everything that the worker did is compared with the rules. The comparison uses a flat model of
 //! them (`book.rt` and the files that it names, `front_turn.rt`, `lane_turn.rt`), which calls no code of the lanes.
 //!
+//! Then the seed gives a list of runs over one spool (`life.rt`), on a disk in memory that loses and tears what was not synced. Each
+//! run ends by a stop or by a crash at any turn (`serving.rt`). What a start offers, what lanes take, and what NASes are told is compared
+//! with what was accepted, answered and synced in all runs before (`history.rt`).
+//!
 //! The arguments are the first seed and the number of seeds. If a seed fails, the program prints the seed, the turn
 //! and the rule that was broken, and ends with status 1. The same seed fails again.
 #![tactic(auto)]
@@ -14,26 +18,33 @@
 mod accepting;
 mod book;
 mod chance;
+mod clock;
 mod ending;
 mod events;
 mod front_turn;
 mod hearing;
+mod history;
 mod lane_turn;
+mod life;
 mod making;
 mod nases;
 mod network;
 mod planning;
+mod process;
 mod rules;
 mod run;
+mod serving;
 mod setting;
 mod settling;
 mod stepping;
 mod trace;
 mod walk;
+mod witness;
 mod world;
 
-use run::run_seed;
-use std::alloc::AllocGlobal;
+use life::live;
+use run::{Outcome, run_seed};
+use std::alloc::{AllocGlobal, Global};
 use std::env::{self, Env};
 use std::io::Print;
 use std::process::ExitCode;
@@ -58,20 +69,34 @@ fn obey<R: Env + AllocGlobal + Print + Wait>(rt: &R) -> u8 {
 }
 
 fn run_all<R: AllocGlobal + Print + Wait>(rt: &R, first: u64, count: u64) -> u8 {
-    let mut turns: u64 = 0;
+    let (mut turns, mut crashes) = (0_u64, 0_u64);
     for place in 0..count {
         let seed = first.saturating_add(place);
-        let outcome = run_seed(rt, rt.alloc(), seed);
+        let outcome = play(rt, rt.alloc(), seed);
         turns = turns.saturating_add(outcome.turns);
+        crashes = crashes.saturating_add(outcome.crashes);
         if let Some(rule) = outcome.broken {
             let turn = outcome.turns;
             let _ = println!(rt; "seed {seed} turn {turn}: {rule}");
             return FAILED;
         }
     }
-    match println!(rt; "{count} seeds, {turns} turns: ok") {
+    match println!(rt; "{count} seeds, {turns} turns, {crashes} crashes: ok") {
         Ok(()) => 0,
         Err(_) => FAILED,
+    }
+}
+
+/// Plays a seed: a run without a spool, and a list of runs over one.
+fn play(rt: &impl Wait, alloc: Global, seed: u64) -> Outcome {
+    let alone = run_seed(rt, alloc, seed);
+    if alone.broken.is_some() {
+        return alone;
+    }
+    let over_spool = live(rt, alloc, seed);
+    Outcome {
+        turns: alone.turns.saturating_add(over_spool.turns),
+        ..over_spool
     }
 }
 

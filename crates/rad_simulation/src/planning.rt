@@ -17,7 +17,7 @@ pub struct Plan {
     pub lag: u64,
 }
 
-impl Run {
+impl Run<'_> {
     /// Decides which worker is called next, for how many turns, and what arrives in each.
     pub fn plan(&mut self) -> Plan {
         let lanes = self.setting.homes.len() as u64;
@@ -51,9 +51,9 @@ impl Run {
     }
 
     /// Returns what arrives in `turns` turns, the first one last; nothing if memory is refused.
-    fn arrivals(&mut self, lane: Option<u16>, turns: u64) -> Vec<Arrival> {
+    pub fn arrivals(&mut self, lane: Option<u16>, turns: u64) -> Vec<Arrival> {
         let mut arrivals = Vec::new(self.alloc);
-        let mut clock = self.clock;
+        let mut clock = self.now();
         for _ in 0..turns {
             let wait = self.wait(clock);
             clock = clock.saturating_add(wait);

@@ -144,6 +144,36 @@ impl Rule {
 
     pub const CLOSE_QUEUED: Rule = Rule("the end tells what was never sent, lane by lane");
 
+    pub const OPENS: Rule = Rule("a spool is opened, and nothing in it is damaged");
+
+    pub const NEVER_CAME: Rule = Rule("a start offers only what a lane had accepted, as it came");
+
+    pub const IN_ORDER: Rule = Rule("a start offers each once, in the order of arrival");
+
+    pub const OFFERED_AGAIN: Rule = Rule("nothing is offered again whose answer was synced");
+
+    pub const LOST: Rule = Rule("what was synced and not answered is offered by the next start");
+
+    pub const LOST_IN_ORDER: Rule = Rule("a stop in order loses no more than it counts");
+
+    pub const LOST_BY_LANE: Rule = Rule("what a lane took and did not answer, it has");
+
+    pub const WAITS: Rule = Rule("what a start offered and no lane took yet waits");
+
+    pub const FORGOTTEN: Rule = Rule("an answer that was synced is remembered for its span");
+
+    pub const ANEW: Rule = Rule("nothing is taken anew within the span of a synced answer");
+
+    pub const BEFORE_NEWER: Rule = Rule(
+        "a lane takes what earlier runs left in order, before newer",
+    );
+
+    pub const SAME_ANSWER: Rule = Rule(
+        "a repeat gets the octets of an earlier run within the span",
+    );
+
+    pub const LEFT: Rule = Rule("all that is left is served once home servers answer");
+
     /// Returns the rule as an error if `is_kept` is false.
     pub fn unless(self, is_kept: bool) -> Result<(), Rule> {
         if is_kept { Ok(()) } else { Err(self) }

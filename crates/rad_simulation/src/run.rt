@@ -11,7 +11,7 @@ use crate::network::Network;
 use crate::planning::Plan;
 use crate::rules::Rule;
 use crate::setting::Setting;
-use crate::trace::{Arrival, Trace, TraceGate, TraceWire};
+use crate::trace::{Arrival, NextCall, Stage, TraceGate, TraceWire};
 use crate::walk::Walk;
 use rad_desk::{Inlet, Proxy, Tally, Worker, front_worker, lane_worker, open};
 use rad_realms::{Config, read_config};
@@ -24,6 +24,8 @@ use std::sync::Wait;
 pub struct Outcome {
     /// The number of turns.
     pub turns: u64,
+    /// The number of crashes.
+    pub crashes: u64,
     /// The rule that was broken in the last of them, if any.
     pub broken: Option<Rule>,
 }
@@ -31,12 +33,12 @@ pub struct Outcome {
 /// The proxy of a run, with its configuration.
 #[derive(Clone, Copy)]
 pub struct Served<'a> {
-    config: &'a Config,
-    proxy: &'a Proxy,
+    pub config: &'a Config,
+    pub proxy: &'a Proxy,
 }
 
 /// Runs the worker of a lane for `turns` turns. Returns `None` if there is no such lane.
-fn work_lane(
+pub fn work_lane(
     rt: &impl Wait,
     alloc: Global,
     served: Served<'_>,
@@ -55,43 +57,44 @@ fn work_lane(
 
 /// A run in progress, without its proxy.
 #[derive(Drop)]
-pub struct Run {
+pub struct Run<'a> {
     pub alloc: Global,
+    pub stage: &'a Stage,
     pub chance: Chance,
     pub setting: Setting,
     pub books: Books,
     nases: Nases,
     pub network: Network,
-    trace: Trace,
-    pub clock: u64,
-    turns: u64,
+    pub turns: u64,
 }
 
 /// Runs a seed.
 pub fn run_seed(rt: &impl Wait, alloc: Global, seed: u64) -> Outcome {
-    match begin(alloc, seed) {
+    let stage = Stage::new(alloc);
+    match begin(alloc, &stage, seed) {
         Ok(mut run) => run.outcome(rt),
         Err(rule) => Outcome {
             turns: 0,
+            crashes: 0,
             broken: Some(rule),
         },
     }
 }
 
-fn begin(alloc: Global, seed: u64) -> Result<Run, Rule> {
+/// Returns the run of a seed, in which nothing happened yet.
+pub fn begin(alloc: Global, stage: &Stage, seed: u64) -> Result<Run<'_>, Rule> {
     let mut chance = Chance::new(seed);
     let setting = Setting::draw(alloc, &mut chance)?;
     let books = books_of(alloc, &setting)?;
     let network = Network::new(alloc, &setting)?;
     Ok(Run {
         alloc,
+        stage,
         chance,
         setting,
         books,
         nases: Nases::new(alloc),
         network,
-        trace: Trace::new(alloc),
-        clock: 0,
         turns: 0,
     })
 }
@@ -122,11 +125,12 @@ fn close(alloc: Global, proxy: Proxy, inlets: Vec<Inlet>, books: &[Book]) -> Res
     }
 }
 
-impl Run {
+impl Run<'_> {
     fn outcome(&mut self, rt: &impl Wait) -> Outcome {
         let broken = self.serve_text(rt).err();
         Outcome {
             turns: self.turns,
+            crashes: 0,
             broken,
         }
     }
@@ -138,7 +142,7 @@ impl Run {
     }
 
     /// Returns the configuration that the setting's text describes.
-    fn config(&self) -> Result<Config, Rule> {
+    pub fn config(&self) -> Result<Config, Rule> {
         let setting = &self.setting;
         let text = format!(in self.alloc; "{setting}")?;
         match read_config(self.alloc, text.as_str()) {
@@ -197,14 +201,15 @@ impl Run {
     }
 
     /// Has a NAS send something, a datagram come late to its home server, and a home server die or come back, by chance.
-    fn happen(&mut self) -> Result<(), Rule> {
+    pub fn happen(&mut self) -> Result<(), Rule> {
         let sends = if self.setting.is_hurried { 1 } else { 3 };
         if self.chance.is_one_in(sends) {
             self.have_nas_send()?;
         }
         if self.chance.is_one_in(20) {
+            let now = self.now();
             self.network
-                .deliver_late(&mut self.chance, &self.setting, self.clock)?;
+                .deliver_late(&mut self.chance, &self.setting, now)?;
         }
         if self.chance.is_one_in(40) {
             self.network.turn_over(&mut self.chance);
@@ -212,13 +217,19 @@ impl Run {
         Ok(())
     }
 
-    fn have_nas_send(&mut self) -> Result<(), Rule> {
+    /// Has half of the home servers remember their answers for longer than most runs.
+    pub fn lengthen_spans(&mut self) {
+        self.setting.lengthen_spans(&mut self.chance);
+    }
+
+    pub fn have_nas_send(&mut self) -> Result<(), Rule> {
         let mut mail = self.nases.send(&mut self.chance, &self.setting)?;
         mail.socket = if self.chance.is_one_in(3) { 2 } else { 0 };
         self.network.world.asks(&mail)?;
         spoil(&mut mail, &mut self.chance)?;
+        let now = self.now();
         self.network
-            .carry(&mut self.chance, &self.setting, self.clock, None, mail)
+            .carry(&mut self.chance, &self.setting, now, None, mail)
     }
 
     fn drain(&mut self, rt: &impl Wait, proxy: &Proxy) -> Result<(), Rule> {
@@ -251,12 +262,36 @@ impl Run {
         plan: Plan,
     ) -> Result<(), Rule> {
         let (lane, turns) = (plan.lane, plan.turns);
-        let (tally, arrivals) = self.work(rt, served, inlets, plan);
-        self.network.give_back(arrivals, self.clock, lane)?;
-        match (self.trace.take(), tally) {
+        let tally = self.work(rt, served, inlets, plan);
+        self.give_back(lane)?;
+        match (self.stage.trace.take(), tally) {
             (Some(events), Some(tally)) => self.follow(lane, turns, events.as_slice(), tally),
             _ => Err(Rule::MEMORY),
         }
+    }
+
+    /// Puts what a worker did not receive in its last call on its way again.
+    pub fn give_back(&mut self, lane: Option<u16>) -> Result<(), Rule> {
+        let now = self.now();
+        match self.stage.take_arrivals() {
+            Some(arrivals) => self.network.give_back(arrivals, now, lane),
+            None => Ok(()),
+        }
+    }
+
+    /// Has this arrive in the next call of a worker, whose clock is so many milliseconds behind.
+    pub fn prepare(&mut self, arrivals: Vec<Arrival>, lag: u64) {
+        let call = NextCall {
+            lag,
+            chance: Chance::new(self.chance.draw()),
+            faults: self.setting.faults,
+        };
+        self.stage.prepare(call, arrivals);
+    }
+
+    /// Returns the moment, in milliseconds since the beginning.
+    pub fn now(&self) -> u64 {
+        self.stage.clock.passed()
     }
 
     /// Compares what a worker did with the world outside and with the rules, and delivers what it sent to the home servers.
@@ -272,14 +307,14 @@ impl Run {
         self.react(lane, events)
     }
 
-    /// Runs a worker. Returns its tally, if there is such a worker, and what it did not receive.
+    /// Runs a worker. Returns its tally, if there is such a worker.
     fn work(
         &mut self,
         rt: &impl Wait,
         served: Served<'_>,
         inlets: &mut [Inlet],
         plan: Plan,
-    ) -> (Option<Tally>, Vec<Arrival>) {
+    ) -> Option<Tally> {
         let Plan {
             lane,
             turns,
@@ -287,34 +322,26 @@ impl Run {
             calls,
             lag,
         } = plan;
-        let mut wire = TraceWire {
-            trace: &self.trace,
-            arrivals,
-            clock: self.clock,
-            lag,
-            chance: Chance::new(self.chance.draw()),
-            faults: self.setting.faults,
-        };
+        self.prepare(arrivals, lag);
+        let mut wire = TraceWire { stage: self.stage };
         let gate = TraceGate {
-            trace: &self.trace,
+            stage: self.stage,
             worker: worker_of(lane),
             calls: Cell::new(calls),
+            notes: None,
         };
         let alloc = self.alloc;
-        let tally = match lane {
+        match lane {
             Some(lane) => work_lane(rt, alloc, served, lane, &mut wire, &gate, turns),
             None => {
                 let Served { config, proxy } = served;
                 Some(front_worker(rt, alloc, proxy, config, inlets, &mut wire, &gate, turns))
             }
-        };
-        self.clock = wire.clock;
-        let TraceWire { arrivals, .. } = wire;
-        (tally, arrivals)
+        }
     }
 
     /// Shows what a worker sent to the world outside.
-    fn show(&mut self, lane: Option<u16>, events: &[TraceEvent]) -> Result<(), Rule> {
+    pub fn show(&mut self, lane: Option<u16>, events: &[TraceEvent]) -> Result<(), Rule> {
         for event in events {
             let TraceEvent::Went(gone) = event else {
                 continue;
@@ -362,16 +389,17 @@ impl Run {
     }
 
     /// Delivers what a lane sent to the home servers.
-    fn react(&mut self, lane: Option<u16>, events: &[TraceEvent]) -> Result<(), Rule> {
+    pub fn react(&mut self, lane: Option<u16>, events: &[TraceEvent]) -> Result<(), Rule> {
         let Some(lane) = lane else {
             return Ok(());
         };
+        let now = self.now();
         for event in events {
             if let TraceEvent::Went(gone) = event
                 && gone.is_handed_over
             {
                 self.network
-                    .reach_home(&mut self.chance, &self.setting, self.clock, lane, gone)?;
+                    .reach_home(&mut self.chance, &self.setting, now, lane, gone)?;
             }
         }
         Ok(())

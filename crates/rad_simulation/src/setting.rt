@@ -44,6 +44,9 @@ address = "10.0.0.2"
 secret = "second-secret"
 "#;
 
+/// A span that is longer than most runs, in milliseconds.
+const LONG_SPAN: u32 = 20_000;
+
 /// A home server of a run.
 #[derive(Drop)]
 pub struct Home {
@@ -103,6 +106,15 @@ impl Setting {
             setting.other = Some((chance.below(homes) & 3) as u16);
         }
         Ok(setting)
+    }
+
+    /// Has half of the home servers remember their answers for a span that is longer than most runs.
+    pub fn lengthen_spans(&mut self, chance: &mut Chance) {
+        for home in self.homes.as_mut_slice().iter_mut() {
+            if chance.is_one_in(2) {
+                home.limits.span = LONG_SPAN;
+            }
+        }
     }
 
     fn add_home(&mut self, place: u16, chance: &mut Chance) -> Result<(), Rule> {

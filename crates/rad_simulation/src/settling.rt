@@ -93,7 +93,7 @@ impl Book {
     }
 }
 
-impl Run {
+impl Run<'_> {
     /// Has each lane be served.
     pub fn settle(
         &mut self,
@@ -134,7 +134,7 @@ impl Run {
     ) -> Result<(), Rule> {
         if !self.book(place)?.can_go_on() {
             if let Some(down) = self.book(place)?.down {
-                self.clock = self.clock.max(down.until);
+                self.stage.clock.pass(down.until.saturating_sub(self.now()));
             }
             self.lane_turns(rt, served, inlets, place, Came::Nothing)?;
             Rule::COMES_UP.unless(self.book(place)?.can_go_on())?;
@@ -155,11 +155,11 @@ impl Run {
         place: usize,
     ) -> Result<(), Rule> {
         for _ in 0..self.book(place)?.most_steps() {
-            if !self.book(place)?.is_settled(self.clock) {
+            if !self.book(place)?.is_settled(self.now()) {
                 self.lane_turns(rt, served, inlets, place, Came::Nothing)?;
             }
         }
-        Rule::SETTLES.unless(self.book(place)?.is_settled(self.clock))?;
+        Rule::SETTLES.unless(self.book(place)?.is_settled(self.now()))?;
         self.lane_turns(rt, served, inlets, place, Came::Nothing)?;
         let replies = self.book(place)?.replies(self.alloc)?;
         for reply in replies {

@@ -40,6 +40,8 @@ struct Link {
     secret: Secret,
     /// What was sent, each datagram once, in the order of the first sending.
     departed: Vec<Departed>,
+    /// The places of what was sent first in this run. Another run gives its marks anew.
+    of_run: Vec<usize>,
     /// The places of what the home server received, in the order in which it came.
     received: Vec<usize>,
     replies: Vec<Reply>,
@@ -63,6 +65,7 @@ impl World {
                 lane: (lane & 0xffff) as u16,
                 secret: home.secret,
                 departed: Vec::new(alloc),
+                of_run: Vec::new(alloc),
                 received: Vec::new(alloc),
                 replies: Vec::new(alloc),
             })?;
@@ -85,20 +88,32 @@ impl World {
         Ok(())
     }
 
-    /// A lane sends a datagram. Whatever has the same mark has the same octets.
+    /// Another run begins.
+    pub fn begins_run(&mut self) {
+        for link in self.links.as_mut_slice().iter_mut() {
+            link.of_run.clear();
+        }
+    }
+
+    /// A lane sends a datagram. Whatever has the same mark has the same octets, within a run.
     pub fn departs(&mut self, lane: u16, gone: &Gone) -> Result<(), Rule> {
         let alloc = self.alloc;
         let link = self.link(lane)?;
-        if link.place_of(gone.octets.as_slice()).is_some() {
-            return Ok(());
+        let octets = gone.octets.as_slice();
+        let place = match link.place_of(octets) {
+            Some(place) if link.of_run.as_slice().contains(&place) => return Ok(()),
+            Some(place) => place,
+            None => link.departed.len(),
+        };
+        Rule::SENT_ALIKE.unless(!link.has_mark_of(octets))?;
+        if place == link.departed.len() {
+            link.departed.push(Departed {
+                socket: gone.socket,
+                to: gone.to,
+                octets: octets.to_vec(alloc)?,
+            })?;
         }
-        let is_other = link.has_mark_of(gone.octets.as_slice());
-        Rule::SENT_ALIKE.unless(!is_other)?;
-        link.departed.push(Departed {
-            socket: gone.socket,
-            to: gone.to,
-            octets: gone.octets.to_vec(alloc)?,
-        })?;
+        link.of_run.push(place)?;
         Ok(())
     }
 
@@ -206,13 +221,15 @@ impl Link {
         None
     }
 
-    /// Returns whether something was sent with the same mark as this. A probe has none.
+    /// Returns whether something was sent in this run with the same mark as this. A probe has none.
     fn has_mark_of(&self, octets: &[u8]) -> bool {
         let Some(mark) = mark_of(self.lane, octets) else {
             return false;
         };
-        for departed in self.departed.as_slice() {
-            if mark_of(self.lane, departed.octets.as_slice()) == Some(mark) {
+        for place in self.of_run.as_slice() {
+            if let Some(departed) = self.departed.as_slice().get(*place)
+                && mark_of(self.lane, departed.octets.as_slice()) == Some(mark)
+            {
                 return true;
             }
         }
