@@ -38,7 +38,7 @@ from tests.lib.starting import DEATH_OF_PARENT, LIBC
 
 OUT, NO_FAULT = TOP / "out" / "mutants", TOP / "tests/lib/mutants/no_fault.txt"
 CRATES = ["rad_log", "ledger_state", "rad_metrics", "rad_addresses", "rad_server", "rad_telemetry", "rad_console", "rad_files",
-          "ledger_files", "ledger_writer", "rad_proxy", "rad_audit"]
+          "ledger_files", "ledger_writer", "spool_files", "spool_writer", "rad_proxy", "rad_audit"]
 PROGRAMS = ["rad_proxy", "rad_audit", "config_json"]
 # Scripts that look at the repository alone, or that want whole machines, or programs that are not made here.
 OUTSIDE = ("gate/", "cluster/", "models/", "faults/queue_memory", "service/alerts", "configuration/schema")
@@ -75,7 +75,7 @@ def sum_of(*places):
 
 def sum_of_programs():
     own = TOP / "tests/lib/mutants"
-    return sum_of(TOP / "crates", own / "rattle_changes.py", own / "program.py", own / "chosen.c")
+    return f"{sum_of(TOP / 'crates', own / 'rattle_changes.py', own / 'program.py', own / 'chosen.c')} {' '.join(CRATES)}"
 
 
 def sum_of_look(script):

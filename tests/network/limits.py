@@ -98,18 +98,30 @@ def the_last_of_sixty_four_home_servers_is_waited_for(program, folder):
 
 
 def a_drain_of_sixty_four_lanes_drains_each(program, folder):
-    """The last home server alone is marked down. After `drain` each other lane is at its end, and all refuse what is new."""
+    """Some home servers are marked down, with a request or more. After each `drain` each other lane is at its end, and all refuse what is
+    new."""
+    held = {2: 3, 5: 2, HOMES - 1: 1}
+    accepted = [held.get(lane, 0) for lane in range(HOMES)]
     with Stage(program, folder, "tries = 1\nfirst_wait = 100\n", HOMES) as stage:
-        stage.nas.ask(f"h{HOMES - 1}")
-        until("the last one is down", lambda: values(stage, "home_up") == [1] * (HOMES - 1) + [0])
-        hope("the state", [line.split()[3] for line in stage.say(b"state", HOMES)], ["up"] * (HOMES - 1) + ["down"])
+        for lane, count in held.items():
+            for _ in range(count):
+                stage.nas.ask(f"h{lane}")
+        until("these are down", lambda: values(stage, "home_up") == [int(not count) for count in accepted])
+        hope("the state", [line.split()[3] for line in stage.say(b"state", HOMES)], ["down" if count else "up" for count in accepted])
         for which in ("first", "second", "third"):
-            hope(f"the {which} drain", stage.say(b"drain", HOMES), [f"drain: {lane} {int(lane == HOMES - 1)}" for lane in range(HOMES)])
-        hope("the modes", [line.split()[4] for line in stage.say(b"state", HOMES)], ["done"] * (HOMES - 1) + ["draining"])
+            hope(f"the {which} drain", stage.say(b"drain", HOMES), [f"drain: {lane} {count}" for lane, count in enumerate(accepted)])
+        hope("the modes", [line.split()[4] for line in stage.say(b"state", HOMES)], ["draining" if count else "done" for count in accepted])
         for lane in (0, 31, 32, HOMES - 1):
             stage.nas.ask(f"h{lane}")
         until("refused", lambda: sum(values(stage, "refused_total")) == 4)
-        hope("the end", stage.ends()[1:], ("end: queued 0 outstanding 1 untaken 0", 3))
+        hope("the end", stage.ends()[1:], (f"end: queued 0 outstanding {sum(accepted)} untaken 0", 3))
+
+
+def each_of_sixty_four_books_is_cut(program, folder):
+    """Of each lane, whose book is short, answered requests are cut off."""
+    with Stage(program, folder, "book = 4\nspan = 0\n", HOMES) as stage:
+        hope("answered", [served(stage, lane) for lane in range(HOMES) for _ in range(3)], [True] * 3 * HOMES)
+        until("each is cut", lambda: len(cut := values(stage, "cut_total")) == HOMES and all(cut))
 
 
 def two_hundred_fifty_six_clients_are_counted(program, folder):
@@ -525,6 +537,7 @@ TESTS = [
     each_of_sixty_four_home_servers_is_logged,
     the_last_of_sixty_four_home_servers_is_waited_for,
     a_drain_of_sixty_four_lanes_drains_each,
+    each_of_sixty_four_books_is_cut,
     two_hundred_fifty_six_clients_are_counted,
     two_hundred_fifty_six_realms_are_counted,
     the_widest_window_is_out_at_once,

@@ -556,8 +556,8 @@ def keep_so_many_in_all(program, work):
 
 
 def lose_their_own_at_a_tie(program, work):
-    """Where one more is kept than may be, and two NASes have the most, that one loses its own oldest that got one more."""
-    counts = [1, KEPT - 2, KEPT - 1, *[KEPT - 2] * (ALL // (KEPT - 2) - 2)]
+    """Where one more is kept than may be, and three NASes have the most, that one loses its own oldest that got one more: the second of them."""
+    counts = [1, KEPT - 1, KEPT - 2, KEPT - 1, *[KEPT - 2] * (ALL // (KEPT - 2) - 3)]
     counts.append(ALL + 1 - sum(counts))
 
     slower = iter(SLOWER)
@@ -569,9 +569,9 @@ def lose_their_own_at_a_tie(program, work):
             for place, (nas, octets) in enumerate(zip(crowded.nases, asked)):
                 crowded.ask(nas, octets)
                 crowded.have_come(sum(counts[:place + 1]))
-            crowded.ask(crowded.nases[1], last)
+            crowded.ask(crowded.nases[2], last)
             time.sleep(OLD * slow)
-            asked[1] = asked[1][1:] + last
+            asked[2] = asked[2][1:] + last
             wanted = [[answer(octets, octets[1], b"", SECRET) for octets in requests] for requests in asked]
             found = [list(iter(lambda: rest_of(nas), None)) for nas in crowded.nases[:len(counts)]]
             return [place for place, pair in enumerate(zip(found, wanted)) if pair[0] != pair[1]]

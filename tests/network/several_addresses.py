@@ -14,6 +14,7 @@ import os
 import pathlib
 import re
 import shutil
+import signal
 import socket
 import struct
 import subprocess
@@ -204,20 +205,36 @@ def test_other_addresses(program, folder):
 
 
 def test_later_address(program, folder):
-    """An address that comes later is told once, when a request comes to it, and that is answered."""
+    """Addresses that come later are told once each, when a request comes to one of them, and that is answered. One that comes right behind is not
+    looked for in the same ten seconds."""
+    later, last = ["10.77.0.8", "10.77.0.9", "10.77.0.10"], "10.77.0.11"
     with Service(program, folder) as service, bound(NASES[0]) as nas:
         service.ask(nas, "127.0.0.77")
-        add("10.77.0.8")
+        add(*later)
         try:
-            service.ask(nas, "10.77.0.8")
-            (line,) = until("the address is told", lambda: service.told("address-unbound"))
-            if "level=warn" not in line or not line.endswith("event=address-unbound address=10.77.0.8"):
-                raise AssertionError(line)
+            service.ask(nas, later[0])
+            lines = until("the addresses are told", lambda: len(told := service.told("address-unbound")) >= len(later) and told)
+            hope("what is told", {line.partition("level=")[2] for line in lines}, {f"warn event=address-unbound address={address}" for address in later})
+            add(last)
+            service.ask(nas, last)
             time.sleep(1)
-            service.ask(nas, "10.77.0.8")
-            hope("how often it is told", len(service.told("address-unbound")), 1)
+            service.ask(nas, later[1])
+            hope("how often they are told", len(service.told("address-unbound")), len(later))
         finally:
-            ip("address", "del", "10.77.0.8/32", "dev", "lo")
+            for address in (*later, last):
+                ip("address", "del", f"{address}/32", "dev", "lo")
+
+
+def test_kept_at_each_address(program, folder):
+    """While nothing can be sent, responses from each address are kept, two for each NAS. Once the network is quick, each arrives."""
+    variables = {"LD_PRELOAD": built(folder, "full_send_buffer"), "FROM_PORT": str(PORT), "NARROW_FIRST": "1", "NARROW_LAST": "65535",
+                 "NARROW_ROOM": "1", "NARROW_MILLISECONDS": "60000", "WIDE_AFTER": "500"}
+    with Service(program, folder, variables=variables) as service, contextlib.ExitStack() as stack:
+        nases = [stack.enter_context(bound(address)) for address in NASES]
+        asked = [(nas, address, service.send(nas, address)) for _ in range(2) for nas, address in zip(nases, SERVED)]
+        for _ in asked:
+            service.reply(service.forwarded())
+        hope("answered from", [service.answered_from(nas, octets) for nas, _, octets in asked], [address for _, address, _ in asked])
 
 
 def test_homes_at_this_machine(program, folder):
@@ -476,6 +493,32 @@ def test_many_addresses(program, folder):
                 hope(f"asked {address}", service.ask(nas, address), address)
     finally:
         change("del")
+
+
+def test_drops_at_one_address(program, folder):
+    """What the system drops at the socket of one address counts as of that socket alone, though others have the same port."""
+    with Service(program, folder, variables={"RAD_PROXY_COUNTERS": f"{folder}/counters"}) as service, bound(NASES[0]) as nas:
+        service.ran.send_signal(signal.SIGSTOP)
+        while not any(dropped()):
+            for _ in range(100):
+                nas.sendto(bytes(1000), (SERVED[2], PORT))
+        service.ran.send_signal(signal.SIGCONT)
+        wanted = [(SERVED[2], count) for count in dropped() if count]
+        found = until("the drops", lambda: [pair for pair in told_drops(folder) if pair[1]])
+        hope("the drops", found, wanted)
+
+
+def dropped():
+    """How many datagrams the system dropped at each socket of the service, by Linux's list of them."""
+    lines = [line.split() for line in pathlib.Path("/proc/net/udp").read_text().splitlines()[1:]]
+    return [int(line[-1]) for line in lines if line[1].endswith(f":{PORT:04X}")]
+
+
+def told_drops(folder):
+    """What the counters tell as dropped at each socket at the port of the service, with its address."""
+    file = pathlib.Path(folder, "counters")
+    text = file.read_text("utf-8") if file.exists() else ""
+    return [(address, int(count)) for address, count in re.findall(rf'^rad_proxy_socket_drops_total\{{.*"([0-9.]+):{PORT}".*\}} (\d+)$', text, re.M)]
 
 
 def test_flood_at_one_address(program, folder):

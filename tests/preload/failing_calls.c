@@ -3,7 +3,8 @@
  *
  * Counts the calls of each kind below of the program that it is loaded into (LD_PRELOAD), from its start on and of all threads, in the
  * file FAIL_COUNTS: for each kind, in their order, a machine's number of 64 bits. The call of number FAIL_AT, counted from 1 on, of the
- * kind FAIL_KIND fails with the error FAIL_ERROR, and nothing is done then. Allocations are counted once the libraries have begun.
+ * kind FAIL_KIND fails with the error FAIL_ERROR, and nothing is done then; where that is 0, the program is killed before it. Allocations
+ * are counted once the libraries have begun.
  */
 #define _GNU_SOURCE
 #include <dirent.h>
@@ -11,12 +12,16 @@
 #include <errno.h>
 #include <fcntl.h>
 #include <poll.h>
+#include <pthread.h>
+#include <signal.h>
 #include <stdarg.h>
 #include <stdatomic.h>
 #include <stdint.h>
 #include <stdlib.h>
 #include <string.h>
 #include <sys/epoll.h>
+#include <sys/eventfd.h>
+#include <sys/file.h>
 #include <sys/mman.h>
 #include <sys/socket.h>
 #include <sys/stat.h>
@@ -31,12 +36,14 @@ extern void *__libc_memalign(size_t alignment, size_t size);
 
 enum kind {
     SENDTO, RECVFROM, READ, WRITE, POLL, EPOLL_WAIT, OPEN, FDATASYNC, RENAME, UNLINK, GETDENTS64, STATX, CLOCK_GETTIME, BIND, MALLOC,
-    REALLOC, KINDS
+    REALLOC, FSYNC, LSEEK, FLOCK, FCHMOD, MKDIR, SOCKET, SETSOCKOPT, GETSOCKOPT, GETSOCKNAME, IOCTL, EPOLL_CREATE, EPOLL_CTL, EVENTFD,
+    GETENTROPY, PTHREAD_CREATE, KINDS
 };
 
 static const char *const NAMES[KINDS] = {
     "sendto", "recvfrom", "read", "write", "poll", "epoll_wait", "open", "fdatasync", "rename", "unlink", "getdents64", "statx",
-    "clock_gettime", "bind", "malloc", "realloc",
+    "clock_gettime", "bind", "malloc", "realloc", "fsync", "lseek", "flock", "fchmod", "mkdir", "socket", "setsockopt", "getsockopt",
+    "getsockname", "ioctl", "epoll_create", "epoll_ctl", "eventfd", "getentropy", "pthread_create",
 };
 
 static _Atomic int64_t *counts;
@@ -75,6 +82,9 @@ static int fails(enum kind kind)
 {
     if (!counts || atomic_fetch_add(&counts[kind], 1) + 1 != at || kind != failing) {
         return 0;
+    }
+    if (error == 0) {
+        kill(getpid(), SIGKILL);
     }
     errno = error;
     return 1;
@@ -213,4 +223,99 @@ int posix_memalign(void **place, size_t alignment, size_t size)
 void *realloc(void *old, size_t size)
 {
     return size && fails(REALLOC) ? NULL : __libc_realloc(old, size);
+}
+
+int fsync(int file)
+{
+    int (*next)(int) = dlsym(RTLD_NEXT, "fsync");
+    return fails(FSYNC) ? -1 : next(file);
+}
+
+off_t lseek(int file, off_t place, int from)
+{
+    off_t (*next)(int, off_t, int) = dlsym(RTLD_NEXT, "lseek");
+    return fails(LSEEK) ? -1 : next(file, place, from);
+}
+
+int flock(int file, int operation)
+{
+    int (*next)(int, int) = dlsym(RTLD_NEXT, "flock");
+    return fails(FLOCK) ? -1 : next(file, operation);
+}
+
+int fchmod(int file, mode_t mode)
+{
+    int (*next)(int, mode_t) = dlsym(RTLD_NEXT, "fchmod");
+    return fails(FCHMOD) ? -1 : next(file, mode);
+}
+
+int mkdir(const char *path, mode_t mode)
+{
+    int (*next)(const char *, mode_t) = dlsym(RTLD_NEXT, "mkdir");
+    return fails(MKDIR) ? -1 : next(path, mode);
+}
+
+int socket(int family, int type, int protocol)
+{
+    int (*next)(int, int, int) = dlsym(RTLD_NEXT, "socket");
+    return fails(SOCKET) ? -1 : next(family, type, protocol);
+}
+
+int setsockopt(int socket, int level, int name, const void *value, socklen_t size)
+{
+    int (*next)(int, int, int, const void *, socklen_t) = dlsym(RTLD_NEXT, "setsockopt");
+    return fails(SETSOCKOPT) ? -1 : next(socket, level, name, value, size);
+}
+
+int getsockopt(int socket, int level, int name, void *value, socklen_t *size)
+{
+    int (*next)(int, int, int, void *, socklen_t *) = dlsym(RTLD_NEXT, "getsockopt");
+    return fails(GETSOCKOPT) ? -1 : next(socket, level, name, value, size);
+}
+
+int getsockname(int socket, struct sockaddr *name, socklen_t *size)
+{
+    int (*next)(int, struct sockaddr *, socklen_t *) = dlsym(RTLD_NEXT, "getsockname");
+    return fails(GETSOCKNAME) ? -1 : next(socket, name, size);
+}
+
+int ioctl(int file, unsigned long request, ...)
+{
+    int (*next)(int, unsigned long, ...) = dlsym(RTLD_NEXT, "ioctl");
+    va_list more;
+    va_start(more, request);
+    void *value = va_arg(more, void *);
+    va_end(more);
+    return fails(IOCTL) ? -1 : next(file, request, value);
+}
+
+int epoll_create1(int flags)
+{
+    int (*next)(int) = dlsym(RTLD_NEXT, "epoll_create1");
+    return fails(EPOLL_CREATE) ? -1 : next(flags);
+}
+
+int epoll_ctl(int poll, int operation, int file, struct epoll_event *event)
+{
+    int (*next)(int, int, int, struct epoll_event *) = dlsym(RTLD_NEXT, "epoll_ctl");
+    return fails(EPOLL_CTL) ? -1 : next(poll, operation, file, event);
+}
+
+int eventfd(unsigned int value, int flags)
+{
+    int (*next)(unsigned int, int) = dlsym(RTLD_NEXT, "eventfd");
+    return fails(EVENTFD) ? -1 : next(value, flags);
+}
+
+int getentropy(void *room, size_t size)
+{
+    int (*next)(void *, size_t) = dlsym(RTLD_NEXT, "getentropy");
+    return fails(GETENTROPY) ? -1 : next(room, size);
+}
+
+/* Gives the error, and does not set it. */
+int pthread_create(pthread_t *thread, const pthread_attr_t *attributes, void *(*work)(void *), void *its)
+{
+    int (*next)(pthread_t *, const pthread_attr_t *, void *(*)(void *), void *) = dlsym(RTLD_NEXT, "pthread_create");
+    return fails(PTHREAD_CREATE) ? error : next(thread, attributes, work, its);
 }

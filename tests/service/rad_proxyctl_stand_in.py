@@ -9,6 +9,8 @@ import contextlib
 import fcntl
 import os
 import pathlib
+import pty
+import select
 import shlex
 import shutil
 import signal
@@ -18,7 +20,7 @@ import time
 from concurrent.futures import ThreadPoolExecutor
 
 from tests.lib import PATIENCE, LeftOut, heed_signals, hope, need, try_named, until
-from tests.lib.stand_ins import Asking
+from tests.lib.stand_ins import TEXT, Asking
 
 REFUSED, FAILED, LEFT_OVER = 5, 4, 3
 STRANGER = 65534
@@ -184,6 +186,26 @@ def out_stays_where_the_proxy_may_drain_yet(stage):
     hope("what is left", (names_in(one.folder), calls.exists()), (["out"], False))
 
 
+def what_is_left_is_unknown_where_the_proxy_answers_no_more(stage):
+    """Where the drained proxy answers nothing any more, it is restarted once the time is over, and the end tells that nobody knows what was left,
+    with status 3."""
+    one = stage.stand_in()
+    answer_of = one.answer_of
+
+    def answered(command):
+        one.reads = one.reads and command != "drain"
+        return answer_of(command)
+
+    one.answer_of = answered
+    way, calls = stage.restarting(one)
+    asker = stage.begin(one, "restart", "--wait", "3", variables=way)
+    until("it is restarted", calls.exists, PATIENCE)
+    one.reads = True
+    told = asker.communicate(timeout=PATIENCE)[1]
+    hope("how it ends", (asker.returncode, told.splitlines()[-2:]),
+         (LEFT_OVER, ["left: unknown, since the proxy does not answer", "rad_proxyctl: restarted, though this was left after 3 seconds"]))
+
+
 def the_look_at_the_rate_ends_once_it_suffices(stage):
     """Where one second's answers suffice for all that waits, the restart looks no longer; at a lower rate it refuses after ten seconds."""
     one = stage.stand_in()
@@ -259,10 +281,11 @@ def with_a_spool_what_is_outstanding_is_waited_for(stage):
 def what_is_not_on_disk_keeps_from_a_restart(stage):
     """With a spool a restart is refused while more is not on disk for ten seconds than came meanwhile, or the disk fails; nothing is drained."""
     begun = []
-    cases = {"more than came": (9, 3, 0, 0), "a disk that fails": (9, 3, 1, 0), "what found no room": (6, 0, 0, 4), "it fails while `out` stands": (9, 0, 0, 0)}
+    cases = {"more than came": (36, 12, 0, 0), "a disk that fails": (9, 3, 1, 0), "what found no room": (6, 0, 0, 4), "it fails while `out` stands": (9, 0, 0, 0)}
     for name, numbers in cases.items():
         words = ("--out", "3") if "out" in name else ()
-        one = with_a_spool(stage, name, *numbers, rate=20 if name.startswith("a disk") else 0, queued=9)
+        rate = {"a disk that fails": 20, "more than came": 2}.get(name, 0)
+        one = with_a_spool(stage, name, *numbers, rate=rate, queued=4, outstanding=5)
         way, calls = stage.restarting(one)
         begun.append((name, one, calls, stage.begin(one, "restart", *words, variables=way), time.monotonic()))
     until("the file out", (one.folder / "out").exists)
@@ -270,7 +293,8 @@ def what_is_not_on_disk_keeps_from_a_restart(stage):
     for name, one, calls, asker, moment in begun:
         told = asker.communicate(timeout=PATIENCE)[1]
         need(time.monotonic() - moment > 9.5, "it looked for", time.monotonic() - moment, "seconds")
-        hope(name, (asker.returncode, told), (REFUSED, "rad_proxyctl: not restarted, and not drained: 3 of 9 open requests are not on disk\n"))
+        left = "12 of 36" if name == "more than came" else "3 of 9"
+        hope(name, (asker.returncode, told), (REFUSED, f"rad_proxyctl: not restarted, and not drained: {left} open requests are not on disk\n"))
         hope(f"{name}: what is left", (names_in(one.folder), one.mode, calls.exists()), (["counters"], "open", False))
 
 
@@ -347,6 +371,17 @@ def traced(stage, one, *words, **options):
     asker = stage.begin(one, "trace", "--session", "S1", *words, variables={"RAD_PROXY_FOLLOW": f"tail -n +1 -F '{log}'"}, **options)
     until("the file trace", (one.folder / "trace").exists)
     return asker, log
+
+
+def a_trace_leaves_another_ones_file_alone(stage):
+    """Where another one's file takes the place of the file `trace`, the trace ends with 4, and that file stays."""
+    one = stage.stand_in()
+    asker, _ = traced(stage, one)
+    (one.folder / "other").write_text("session S2\n")
+    (one.folder / "other").replace(one.folder / "trace")
+    hope("how it ends", asker.wait(PATIENCE), FAILED)
+    hope("what stands there", (one.folder / "trace").read_text(), "session S2\n")
+    asker.communicate()
 
 
 def a_trace_ends_where_the_service_does(stage):
@@ -483,6 +518,29 @@ def top_reads_numbers_in_every_locale(stage):
         hope(f"{name}: its line", (words[:3], words[7:9], words[11:]), (["h1", "up", "5h07m"], ["17.5ms", "24.9ms"], ["1%", "never"]))
 
 
+def top_has_the_times_of_ten_seconds(stage):
+    """On a terminal the times of answers are those of the last ten seconds: there are some yet, once no more answers come."""
+    one = stage.stand_in()
+    one.writes = True
+    until("counters", (one.folder / "counters").exists)
+    ours, theirs = pty.openpty()
+    drawing = stage.begin(one, "top", stdin=theirs, stdout=theirs, stderr=theirs)
+    os.close(theirs)
+    drawn = b""
+    try:
+        for tables in (3, 5):
+            while drawn.count(b"HOME") < tables or not drawn.endswith(b"-\r\n"):
+                need(select.select([ours], [], [], PATIENCE)[0], "it draws no more", drawn[-1000:])
+                drawn += os.read(ours, 4096)
+            one.text = TEXT.replace("{count}", str(one.count))
+    finally:
+        drawing.terminate()
+        drawing.wait(PATIENCE)
+        os.close(ours)
+    rows = [line.split()[7:9] for line in drawn.decode().splitlines() if line.startswith("h1 ")]
+    hope("the times", {tuple(row) for row in rows}, {("17.5ms", "24.9ms")})
+
+
 def locales(stage):
     """Locales that are made where the system has what they are made of; else those of the system."""
     folder = stage.room / "locales"
@@ -532,13 +590,13 @@ def what_the_caller_sets_is_not_read(stage):
 TESTS = [out_is_taken_away_where_it_is_stopped_before_the_drain, no_moment_of_a_stop_leaves_something,
          no_moment_of_a_stop_leaves_something_where_each_step_is_slow, another_ones_restart_is_not_undone,
          out_is_taken_away_where_the_proxy_stalls, out_stays_where_the_proxy_drains_without_an_answer,
-         out_stays_where_the_proxy_may_drain_yet,
+         out_stays_where_the_proxy_may_drain_yet, what_is_left_is_unknown_where_the_proxy_answers_no_more,
          the_look_at_the_rate_ends_once_it_suffices, what_is_outstanding_counts_in_the_rate, with_a_spool_no_queue_is_waited_for,
          with_a_spool_what_is_outstanding_is_waited_for, what_is_not_on_disk_keeps_from_a_restart, what_came_just_now_is_waited_for,
          nobody_else_keeps_root_from_a_restart,
-         who_is_not_root_locks_beside_the_fifos, a_trace_ends_where_the_service_does, no_stop_of_a_trace_leaves_the_file,
+         who_is_not_root_locks_beside_the_fifos, a_trace_ends_where_the_service_does, a_trace_leaves_another_ones_file_alone, no_stop_of_a_trace_leaves_the_file,
          a_trace_whose_output_nobody_reads_ends, nothing_of_a_query_is_left, numbers_are_of_after_the_answer, top_reads_numbers_in_every_locale,
-         each_service_has_its_configuration, what_the_caller_sets_is_not_read]
+         top_has_the_times_of_ten_seconds, each_service_has_its_configuration, what_the_caller_sets_is_not_read]
 
 
 if __name__ == "__main__":

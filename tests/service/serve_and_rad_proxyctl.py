@@ -91,6 +91,24 @@ def goes_on_at_a_hangup_under_systemd(service):
         hope("status", process.wait(PATIENCE), 0)
 
 
+def goes_on_at_a_hangup_while_it_begins_under_systemd(service):
+    """Where systemd started it, a HUP ends nothing while it has not begun to serve."""
+    (service.room / "bin").mkdir()
+    slow = service.room / "bin/mkdir"
+    slow.write_text(f'#!/bin/sh\n: >"{service.room}/begun"\nwhile [ ! -e "{service.room}/go" ]; do sleep 0.01; done\nexec /bin/mkdir "$@"\n')
+    slow.chmod(0o755)
+    more = {"NOTIFY_SOCKET": str(service.room / "notify"), "PATH": f"{service.room}/bin:{os.environ['PATH']}"}
+    with socket.socket(socket.AF_UNIX, socket.SOCK_DGRAM) as heard:
+        heard.bind(str(service.room / "notify"))
+        process = service.start(wait=False, env=service.environment | more)
+        until("it begins", (service.room / "begun").exists)
+        os.kill(process.pid, signal.SIGHUP)
+        (service.room / "go").touch()
+        until("it listens", lambda: "listening" in service.printed.read_text())
+        process.terminate()
+        hope("status", process.wait(PATIENCE), 0)
+
+
 def ended_by_term(service, name, port, await_moment, **variables):
     """How many seconds a `serve` of its own folder and port needs to end, that gets SIGTERM once `await_moment` of the folder returns."""
     file, folder = service.room / f"{name}.toml", service.room / name
@@ -378,6 +396,18 @@ def its_output_is_full(service):
     os.close(reading)
 
 
+def out_is_gone_before_it_says_that_it_listens(service):
+    """The file `out` of a proxy that was drained is gone before the first line is printed, which may take its time."""
+    (service.room / "bin").mkdir()
+    printing = service.room / "bin/timeout"
+    printing.write_text(f'#!/bin/sh\nls >>"{service.room}/seen"\nexec {shutil.which("timeout")} "$@"\n')
+    printing.chmod(0o755)
+    service.run.mkdir(0o700)
+    (service.run / "out").touch()
+    service.start(env=service.environment | {"PATH": f"{service.room}/bin:{os.environ['PATH']}"})
+    hope("what stood there", sorted({"commands", "out"} & {*(service.room / "seen").read_text().split()}), ["commands"])
+
+
 def a_reader_that_pauses_again_loses_nothing(service):
     """Lines that nobody reads for some seconds are given up. Once one goes out again, the next one is waited for as long as before."""
     reading, writing = os.pipe()
@@ -455,14 +485,20 @@ def counters_elsewhere_are_told(service):
 
 
 def the_ledger_is_where_the_variable_says(service):
-    """`serve` hands the folder of the ledger on, also where its path is relative."""
+    """`serve` hands the folders of the ledger and of the spool on, also where their paths are relative; nothing but the program logs."""
     (service.room / "ledger").mkdir()
-    for number, folder in enumerate((str(service.room / "ledger"), "ledger"), 1):
-        service.environment["RAD_PROXY_LEDGER"] = folder
+    for number, folder in enumerate((service.room, pathlib.Path("")), 1):
+        service.environment |= {"RAD_PROXY_LEDGER": str(folder / "ledger"), "RAD_PROXY_SPOOL": str(folder / "spool")}
         process = service.start(cwd=service.room)
         process.terminate()
         hope("status", process.wait(PATIENCE), 0)
         hope("files", len(list((service.room / "ledger").glob("*-000000.jsonl"))), number)
+        hope("the lock of the spool", [file.name for file in (service.room / "spool").iterdir()], ["lock"])
+        shutil.rmtree(service.room / "spool")
+    for name in ("RAD_PROXY_LEDGER", "RAD_PROXY_SPOOL"):
+        del service.environment[name]
+    service.start()
+    hope("other lines", [line for line in service.log.read_text().splitlines() if not line.startswith("level=")], [])
 
 
 def counters_that_cannot_be_written_are_told(service):
@@ -1255,12 +1291,14 @@ def root_serves_nobody_elses_folder(service):
 
 TESTS = [
     nothing_for_others_outlives_the_service,
-    drains_where_its_group_gets_the_signal, drains_where_its_terminal_is_closed, goes_on_at_a_hangup_under_systemd, a_term_at_any_moment_ends_it,
+    drains_where_its_group_gets_the_signal, drains_where_its_terminal_is_closed, goes_on_at_a_hangup_under_systemd,
+    goes_on_at_a_hangup_while_it_begins_under_systemd, a_term_at_any_moment_ends_it,
     a_term_while_it_opens_its_fifos_ends_it, a_limit_on_the_size_of_files_ends_nothing, a_drain_that_failed_is_not_obeyed_later,
     a_second_leaves_the_first_alone,
     the_lock_outlives_a_serve_that_was_killed, refuses_a_folder_that_others_write_in, whatever_the_umask,
     a_stopped_asker_keeps_nobody_out, an_asker_without_an_answer_gives_up, many_ask_at_once, what_nobody_asked_goes_to_standard_output,
-    a_hand_over_that_dies_is_started_anew, nobody_reads_its_output, its_output_is_full, a_reader_that_pauses_again_loses_nothing, what_is_left_over_is_a_warning,
+    a_hand_over_that_dies_is_started_anew, nobody_reads_its_output, its_output_is_full,
+    out_is_gone_before_it_says_that_it_listens, a_reader_that_pauses_again_loses_nothing, what_is_left_over_is_a_warning,
     counters_elsewhere_are_told, the_ledger_is_where_the_variable_says, counters_that_cannot_be_written_are_told, counters_that_are_not_written_are_told,
     metrics_are_as_prometheus_reads_them, metrics_go_to_a_file,
     top_draws_what_is_there, top_has_a_line_of_the_spool, top_draws_a_table_as_soon_as_its_numbers_are_there, top_of_no_proxy_ends, metrics_of_no_proxy_are_removed, metrics_go_to_no_other_file,

@@ -141,6 +141,24 @@ def no_wake_is_lost_where_datagrams_come_together(program, folder):
         best(lambda: sum(is_late() for _ in range(100)), lambda late: late <= 10)
 
 
+def replies_that_come_at_three_ports_together_are_heard(program, folder):
+    """Of three source ports of a lane each has a request outstanding, and the replies to all of them come before the lane's worker sees any:
+    each is answered, though none is sent again."""
+    with Stage(program, folder, "ports = 4\nfirst_wait = 60000\n") as stage:
+        asked, came = [], []
+        for _ in range(3):
+            asked.append(stage.nas.ask())
+            came.append(stage.came())
+            for _ in range(255):
+                stage.round_trip()
+        need(len({sender for _, sender in came}) == 3, "they left from", *(sender for _, sender in came))
+        with stopped(stage):
+            for packet, sender in came:
+                stage.homes[0].answer(packet, sender)
+        found = {stage.nas.socket.recv(4096) for _ in asked}
+        need(found == {answer(each, each[1], b"", SECRET) for each in asked}, "other responses came")
+
+
 def requests_that_come_together_wake_a_lane_once_for_eight(program, folder):
     """While 24 requests wait, of which the front takes one in three milliseconds, their lane, which sleeps after each, is woken for
     the first one, once for eight of the others, and at the end."""
@@ -458,7 +476,8 @@ def ends_once_the_last_response_is_sent(program, folder):
 TESTS = [
     no_wake_is_late, no_wake_is_late_at_any_port, no_wake_is_late_at_any_lane, no_wake_is_lost_while_a_worker_works,
     no_notification_is_lost_before_a_sleep, no_wake_is_lost_where_datagrams_come_together,
-    requests_that_come_together_wake_a_lane_once_for_eight, what_a_lane_sends_while_replies_come_goes_together,
+    replies_that_come_at_three_ports_together_are_heard, requests_that_come_together_wake_a_lane_once_for_eight,
+    what_a_lane_sends_while_replies_come_goes_together,
     an_answer_leaves_within_eight_receives, answers_leave_in_order_where_memory_is_refused,
     what_waits_behind_a_failed_receive_is_received, all_that_is_answered_before_the_end_is_sent,
     a_send_that_fails_is_told_with_its_own_destination, an_idle_worker_looks_again_after_twenty_milliseconds,

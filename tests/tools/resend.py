@@ -122,13 +122,15 @@ def radclient_sends_what_came(_, folder):
 
 
 def a_delay_counts_from_the_acceptance(_, folder):
-    """The seconds since a request was accepted are added to its Acct-Delay-Time, and one without gets it last; --keep-delay leaves both."""
+    """The seconds since a request was accepted are added to its Acct-Delay-Time, and one without gets it last; --keep-delay leaves both. Of a
+    record that two runs left, the first acceptance counts."""
     for keys, age in (({}, 100), ({"accepted": None}, 0)):
         room = Room(folder)
         given = {"age": 100} if not keys else {}
         for value in (None, 0, 7, 2**32 - 5):
             delay = b"" if value is None else attribute(DELAY, value.to_bytes(4, "big"))
             room.leave(START + delay + attribute(44, str(value).encode()), **given)
+        room.leave(START + attribute(44, b"None"), age=30, run="fedcba9876543210")
         if keys:
             lines = [json.loads(line) for line in room.ledger.read_text().splitlines()]
             for line in lines:

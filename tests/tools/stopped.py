@@ -78,7 +78,7 @@ esac
 UNITS = "rad_proxy.service", "rad_proxy@two.service", "rad_proxy-metrics.socket", "rad_proxy-metrics.service", "rad_proxy-heads.timer"
 THERE = ("etc/rad_proxy/one.toml", "var/cache/rad_proxy/counters", "etc/systemd/system/a.wants/rad_proxy-heads.path", "var/lib/rad_proxy/kept",
          "var/lib/rad_proxy_spool/rad_proxy/lock", "var/lib/rad_proxy_spool/rad_proxy-two/lock",
-         "var/lib/rad_proxy_spool/rad_proxy-two/0000000000000001.spool")
+         "var/lib/rad_proxy_spool/rad_proxy-two/0000000000000001.spool", "var/lib/rad_proxy_spool/rad_proxy-six/0000000000000001.spool.damaged")
 SCRIPTS = ("postinst", "configure", "0.1"), ("postinst", "configure", ""), ("prerm", "remove"), ("postrm", "remove"), ("postrm", "purge")
 SECONDS, MOST_STEPS, AT_ONCE = 300, 60, 4
 # What a tool that was killed may leave beside its files, by the beginnings of the names.
@@ -489,23 +489,45 @@ def scripts_of_the_package(stage):
             raise AssertionError(f"{name} {words}: {fault}") from None
 
 
+def an_upgrade_restarts_each_unit_that_it_may(stage):
+    """An upgrade restarts each unit that is active, and has the socket of the metrics begin anew; what the machine's policy forbids is left."""
+    units = [*UNITS, "rad_proxy@three.service"]
+    forbidden = {"": (), "rad_proxy-metrics.socket": (), "rad_proxy@two.service": ("-i two restart",), "rad_proxy.service": ("restart",)}
+    for number, (unit, left) in enumerate(forbidden.items()):
+        (room := stage.room / f"upgrade-{number}").mkdir()
+        script = Maintaining(room, "postinst", "configure", "0.1")
+        script.begin()
+        (room / "units/rad_proxy@three.service").touch()
+        (room / "usr/sbin").mkdir(parents=True)
+        (room / "usr/sbin/policy-rc.d").write_text(f'#!/bin/sh\n[ "$1" != "{unit}" ] || exit 101\n')
+        (room / "usr/sbin/policy-rc.d").chmod(0o755)
+        ran = script.run()
+        active, _, notes = script.state()
+        asked = [note.removeprefix("rad_proxyctl ") for note in notes if note.startswith("rad_proxyctl ")]
+        hope(f"{unit} is forbidden: what is restarted", (ran.returncode, asked), (0, sorted({"-i three restart", "-i two restart", "restart"} - {*left})))
+        anew = [] if unit == "rad_proxy-metrics.socket" else ["rad_proxy-metrics.service"]
+        hope(f"{unit} is forbidden: what is active", active, sorted({*units} - {*anew}))
+
+
 def a_purge_keeps_what_waits(stage):
-    """A purge takes a spool without segments away, and keeps one that has some, which it tells; a removal keeps both."""
+    """A purge takes a spool without segments away, and keeps one that has some, damaged ones too, which it tells; a removal keeps all."""
     room = stage.room / "purged"
     room.mkdir()
     spools = room / "var/lib/rad_proxy_spool"
-    for word, kept in (("remove", ["rad_proxy/lock", *(told := ["rad_proxy-two/0000000000000001.spool", "rad_proxy-two/lock"])]), ("purge", told)):
+    told = ["rad_proxy-six/0000000000000001.spool.damaged", "rad_proxy-two/0000000000000001.spool", "rad_proxy-two/lock"]
+    for word, kept in (("remove", ["rad_proxy/lock", *told]), ("purge", told)):
         script = Maintaining(room, "postrm", word)
         script.begin()
         ran = script.run()
         found = sorted(str(file.relative_to(spools)) for file in spools.rglob("*") if file.is_file())
-        said = f"rad-proxy: {spools}/rad_proxy-two stays, since it may have requests that are not answered: install rad-proxy again, or remove it\n"
+        said = "".join(f"rad-proxy: {spools}/rad_proxy-{name} stays, since it may have requests that are not answered: install rad-proxy again, "
+                       "or remove it\n" for name in ("six", "two"))
         hope(word, (ran.returncode, found, ran.stderr.decode()), (0, sorted(kept), said if word == "purge" else ""))
         shutil.rmtree(room / "bin")
 
 
 TESTS = [a_conversion, a_script_of_a_trial, a_hand_out, an_import, an_index, queries_of_heads, questions, questions_to_nobody, numbers_in_a_file,
-         restarts, a_drop_of_a_spool, a_purge_keeps_what_waits, scripts_of_the_package]
+         restarts, a_drop_of_a_spool, an_upgrade_restarts_each_unit_that_it_may, a_purge_keeps_what_waits, scripts_of_the_package]
 
 
 def tried(test, program):

@@ -192,11 +192,11 @@ def freeradius():
         [(18, "IPv6"), (22, "host name")]), WHOLE
     yield "leading zeros", F_ALL + "client b {\n ipaddr = 010.0.0.1\n secret = x\n}\n", [(18, "no address")], WHOLE
     yield "marks and backslashes", (
-        F_ALL + block("client b", "ipaddr = 10.0.0.1", 'secret = "a\\"b\\101\\\\c#ü%{x}"')
+        F_ALL + block("client b", '"ip\\141ddr" = 10.0.0.1', 'secret = "a\\"b\\101\\\\c#ü%{x}"')
         + block("client c", "ipaddr = 10.0.0.2", "secret = 'a\"\\'${x}'")
         + block("client d", "ipaddr = 10.0.0.3", "secret = a\"b'#\\ ")), [], (
             clients(("10.0.0.1", 'a"b\\101\\\\c#ü%{x}'), ("10.0.0.2", "a\"'${x}"), ("10.0.0.3", "a\"b'#\\")))
-    yield "continued lines", F_ALL + 'client b {\n ipaddr = \\\n10.0.0.1\n secret = "\\\n   a"\n}\n', [], clients(("10.0.0.1", "a"))
+    yield "continued lines, and a path", F_ALL + 'logdir = /var/a=b{c\nclient b {\n ipaddr = \\\n10.0.0.1\n secret = "\\\n   a"\n}\n', [], clients(("10.0.0.1", "a"))
     yield "variables", "word = abc\n" + F_ALL.replace("= abc", '= "${word}"').replace("= def", "= ${client[a].secret}${..word}"), [], (
         WHOLE | {"home": [("h", "192.0.2.9:1813", "abcabc")]})
     yield "variables that are not known", F_ALL + (
